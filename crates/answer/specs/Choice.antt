@@ -1,0 +1,7 @@
+-- Choosing by a test.
+use mathlib.Core.Bool.{Bool, true, false}
+
+-- one of two values, by a test
+abbrev pub pick : {A : Type 0} → Bool → A → A → A
+pick true a b = a
+pick false a b = b

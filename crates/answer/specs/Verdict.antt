@@ -1,0 +1,39 @@
+-- A verdict is the first of a table of tests that holds, or `Go`. An entry point's answer and its output are made of its verdict.
+use Prim.Native.Nat.{ℕ}
+use mathlib.Core.Bool.{Bool, true, false}
+use mathlib.Core.List.{List, [], _∷_, _++_}
+use lib.ListN.{length, drop}
+use Rattle.answer.specs.declared.Refusal.{Refusal}
+use Rattle.answer.specs.declared.Answer.{Answer}
+use Rattle.answer.specs.declared.Answer.the-variants.{Done, Refused}
+use Rattle.answer.specs.declared.Verdict.{Verdict}
+use Rattle.answer.specs.declared.Verdict.the-variants.{Go, Stop}
+
+-- a row of a table of refusals: a test, and the refusal where it holds
+pub record Test : Type 0 where
+  pub holds : Bool
+  pub why : Refusal
+
+infixl 20 _⇒_
+abbrev pub _⇒_ : Bool → Refusal → Test
+b ⇒ r = record { holds = b; why = r }
+
+-- `Stop` where the test holds, and else what follows
+abbrev pub stopIf : Bool → Refusal → Verdict → Verdict
+stopIf true r v = Stop r
+stopIf false r v = v
+
+-- the first test that holds gives the refusal
+abbrev pub firstOf : List Test → Verdict
+firstOf [] = Go
+firstOf (t ∷ ts) = stopIf (t .holds) (t .why) (firstOf ts)
+
+-- n bytes were written, or the refusal
+abbrev pub answerOf : Verdict → ℕ → Answer
+answerOf Go n = Done n
+answerOf (Stop r) n = Refused r
+
+-- what a lent output holds afterwards: the message and then what was there, or all that was there
+abbrev pub outputOf : Verdict → List ℕ → List ℕ → List ℕ
+outputOf Go message out = message ++ drop (length message) out
+outputOf (Stop r) message out = out

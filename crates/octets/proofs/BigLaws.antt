@@ -1,0 +1,57 @@
+-- Laws of `bigFrom`: one more byte, the end, the bounds, and two lists one after the other. Assumes nothing.
+use Prim.Native.Nat.{ℕ, suc, _+_, _-_, _*_, _^_, _<_, _≤_}
+use mathlib.Core.Path.{_≡_, refl, sym, ap, _∙_}
+use mathlib.Core.List.{List, [], _∷_, _++_}
+use native.Mathlib.Nat.{pow-suc, pow-le-pow-right, lt-of-lt-of-le, one-le-pow, mul-assoc, mul-comm, mul-one, add-mul, add-zero, add-assoc}
+use native.Mathlib.Numerals.{add-one}
+use native.Mathlib.Omega.{arith}
+use lib.Dec.{lit<}
+use lib.ListN.{length, getD, take, drop, drop-of-length-le, length-take}
+use lib.Seq.{drop-cons}
+use Rattle.octets.specs.Big.{bigFrom}
+
+pub step : (acc i : ℕ) (s : List ℕ) (v : ℕ) → i < length s → bigFrom acc (drop i s) ≡ v
+    → bigFrom (acc * 256 + getD s i 0) (drop (i + 1) s) ≡ v
+step acc i s v h e = rw add-one (rw (drop-cons s i 0) at e)
+
+pub end : (acc i : ℕ) (s : List ℕ) (v : ℕ) → length s ≤ i → bigFrom acc (drop i s) ≡ v → acc ≡ v
+end acc i s v h e = rw (drop-of-length-le s h) at e
+
+pub grows : (k acc b : ℕ) → acc < 256 ^ k → b < 256 → acc * 256 + b < 256 ^ (k + 1)
+grows k acc b h l = rw (add-one, pow-suc) (omega arith)
+
+pub fits : (k acc b : ℕ) → k < 8 → acc < 256 ^ k → b < 256 → acc * 256 + b < 2 ^ 64
+fits k acc b g h l =
+    let m : 256 ^ (k + 1) ≤ 256 ^ 8 = pow-le-pow-right (lit< tt) {j = 8} (omega arith) in
+    lt-of-lt-of-le (grows k acc b h l) m
+
+pub room : (start l : ℕ) → start < 256 → l ≤ 7 → start < 256 ^ (8 - l)
+room start l h g =
+    let m : 256 ^ 1 ≤ 256 ^ (8 - l) = pow-le-pow-right (lit< tt) {i = 1} (omega arith) in
+    lt-of-lt-of-le h m
+
+-- what `big_from` requires at a start of 0
+pub from-zero : (m k : ℕ) (t : List ℕ) → m ≤ 8
+    → (length (take m (drop k t)) ≤ 8) × (0 < 256 ^ (8 - length (take m (drop k t))))
+from-zero m k t h = (simp length-take (omega arith), one-le-pow _ 256 (lit< tt))
+
+-- one more byte under a bound that grows with it
+pub bound-step : (n i acc b : ℕ) → acc < n * 256 ^ i → b < 256 → acc * 256 + b < n * 256 ^ (i + 1)
+bound-step n i acc b h l =
+    let e : n * 256 ^ (i + 1) ≡ n * 256 ^ i * 256 = rw (add-one, pow-suc) (sym (mul-assoc n (256 ^ i) 256)) in
+    omega arith
+
+-- the values of two lists, one after the other
+pub append : (acc : ℕ) (xs ys : List ℕ) → bigFrom acc (xs ++ ys) ≡ bigFrom (bigFrom acc xs) ys
+append acc [] ys = refl
+append acc (x ∷ xs) ys = append (acc * 256 + x) xs ys
+
+-- the digits in front count by the length of what follows
+pub shift : (acc : ℕ) (ys : List ℕ) → bigFrom acc ys ≡ acc * 256 ^ length ys + bigFrom 0 ys
+shift acc [] = simp (mul-one, add-zero)
+shift acc (y ∷ ys) =
+    let p = 256 ^ length ys in
+    let z : 0 * 256 + y ≡ y = omega arith in
+    let d : acc * 256 * p ≡ acc * 256 ^ suc (length ys) =
+    mul-assoc acc 256 p ∙ ap (λ (n : ℕ). acc * n) (mul-comm 256 p ∙ sym (pow-suc 256 (length ys)))
+    in shift (acc * 256 + y) ys ∙ rw (add-mul, add-assoc, d, z) (ap (λ (n : ℕ). acc * 256 ^ suc (length ys) + n) (sym (shift y ys)))

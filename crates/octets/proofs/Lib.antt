@@ -1,0 +1,5 @@
+pub mod BigLaws
+pub mod DigitsLaws
+pub mod Bits
+pub mod WideOrder
+pub mod Parts

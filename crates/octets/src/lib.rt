@@ -1,0 +1,106 @@
+// Numbers as bytes and as words: the big-endian value of up to 8 bytes, the bytes of a number, and numbers of 128 bits in two words of 64.
+// The inner functions of the codecs above; each says what it requires, and no entry point of the box is here.
+ghost use mathlib.Core.Path.{_≡_};
+ghost use mathlib.Core.List.{_++_};
+ghost use Prim.Native.Nat.{_+_, _-_, _*_, _<_, _≤_, _^_};
+ghost use lib.Dec.{leb, ltb};
+ghost use lib.ListN.{length, drop};
+ghost use Rattle.octets.specs.Big.{bigFrom, bigAt, digits};
+ghost use Rattle.octets.specs.Wide.{wide, lowZero};
+
+// The big-endian value of the bytes of s, after the digits that start stands for.
+pub fn big_from(start: u64, s: &[u8]) -> u64
+    requires { ⌜ (length (now s) ≤ 8) × (start < 256 ^ (8 - length (now s))) ⌝ }
+    ensures { λ r. ⌜ (r ≡ bigFrom start (now (s .entry))) × (r < (start + 1) * 256 ^ length (now (s .entry))) ⌝ }
+{
+    let mut acc = start;
+    let mut i = 0;
+    while i < s.len() {
+        acc = acc * 256 + (s[i] as u64);
+        i += 1;
+    }
+    acc
+}
+
+// The big-endian value of the n bytes at a place.
+pub fn big_at(s: &[u8], at: usize, n: usize) -> u64
+    requires { ⌜ (n ≤ 8) × (at + n ≤ length (now s)) ⌝ }
+    ensures { λ r. ⌜ (r ≡ bigAt at n (now (s .entry))) × (r < 256 ^ n) ⌝ }
+{
+    let end = at + n;
+    big_from(0, &s[at..end])
+}
+
+// Writes the n lowest bytes of v, big-endian, to the front of out.
+pub fn put_digits(out: &mut [u8], n: usize, v: u64)
+    requires { ⌜ n ≤ length (now out) ⌝ }
+    ensures { λ _. ⌜ now (out .exit) ≡ digits n v ++ drop n (now (out .entry)) ⌝ }
+{
+    let mut rest = v;
+    let mut i = n;
+    while 0 < i {
+        i -= 1;
+        out[i] = (rest % 256) as u8;
+        rest = rest / 256;
+    }
+}
+
+// a ≤ b, as numbers of 128 bits.
+pub fn at_most(a_hi: u64, a_lo: u64, b_hi: u64, b_lo: u64) -> bool
+    ensures { λ r. ⌜ r ≡ leb (wide «a_hi» «a_lo») (wide «b_hi» «b_lo») ⌝ }
+{
+    if a_hi == b_hi {
+        return a_lo <= b_lo;
+    }
+    a_hi < b_hi
+}
+
+// a < b, as numbers of 128 bits.
+pub fn below(a_hi: u64, a_lo: u64, b_hi: u64, b_lo: u64) -> bool
+    ensures { λ r. ⌜ r ≡ ltb (wide «a_hi» «a_lo») (wide «b_hi» «b_lo») ⌝ }
+{
+    if a_hi == b_hi {
+        return a_lo < b_lo;
+    }
+    a_hi < b_hi
+}
+
+// 2^k.
+pub fn power_of_two(k: u64) -> u64
+    requires { ⌜ k < 64 ⌝ }
+    ensures { λ r. ⌜ r ≡ 2 ^ k ⌝ }
+{
+    let mut r: u64 = 1;
+    let mut i: u64 = 0;
+    while i < k {
+        r = r * 2;
+        i += 1;
+    }
+    r
+}
+
+// Whether the k lowest bits of x are 0.
+fn low_zero(k: u64, x: u64) -> bool
+    ensures { λ r. ⌜ r ≡ lowZero k x ⌝ }
+{
+    if k < 64 {
+        let m = power_of_two(k);
+        x % m == 0
+    } else {
+        x == 0
+    }
+}
+
+// The same of a number of 128 bits.
+pub fn low_zero_wide(k: u64, hi: u64, lo: u64) -> bool
+    requires { ⌜ k ≤ 128 ⌝ }
+    ensures { λ r. ⌜ r ≡ lowZero k (wide hi lo) ⌝ }
+{
+    if k < 64 {
+        return low_zero(k, lo);
+    }
+    if lo == 0 {
+        return low_zero(k - 64, hi);
+    }
+    false
+}
