@@ -1,0 +1,121 @@
+-- What the tests of a packet's form say, as facts that `omega` reads, both ways. Assumes nothing.
+use mathlib.Core.Path.{_≡_, refl, sym, ap, _∙_}
+use mathlib.Core.Logic.{_⊎_, inl, inr}
+use mathlib.Core.Bool.{Bool, true, false, _&&_, _||_}
+use mathlib.Core.List.{List}
+use Prim.Native.Nat.{ℕ, _+_, _-_, _*_, _/_, _%_, _≤_, _<_}
+use native.Mathlib.Omega.{arith}
+use lib.ListN.{length, getD, take}
+use lib.Dec.{leb, eqb}
+use borrow.Author.Tests.{leb-true, eqb-true, le-leb, eq-eqb}
+use Rattle.answer.proofs.Tests.{and-both, only-false}
+use Rattle.inet.specs.Sum.{words, fold}
+use Rattle.inet.specs.Packet.{versionOf, headerLength, form4, form6, form, Form4, Form6, Form}
+
+pub form4-facts : (p : List ℕ) → form4 p ≡ true → Form4 p
+unfolding form4
+form4-facts p e =
+    let f = and-both _ _ e in
+    let g = and-both _ _ (f .0) in
+    let h = and-both _ _ (g .0) in
+    let i = and-both _ _ (h .0) in
+    let j = and-both _ _ (i .0) in
+    record {
+      long = leb-true _ _ (j .0);
+      four = eqb-true _ _ (j .1);
+      ihl = leb-true _ _ (i .1);
+      head = leb-true _ _ (h .1);
+      total = eqb-true _ _ (g .1);
+      sum = eqb-true _ _ (f .1);
+    }
+
+pub facts-form4 : (p : List ℕ) → Form4 p → form4 p ≡ true
+unfolding form4
+facts-form4 p f =
+    simp (le-leb _ _ (f .long), eq-eqb _ _ (f .four), le-leb _ _ (f .ihl), le-leb _ _ (f .head), eq-eqb _ _ (f .total), eq-eqb _ _ (f .sum))
+
+pub form4-fails : (p : List ℕ) → (Form4 p → ⊥) → form4 p ≡ false
+form4-fails p h = only-false (form4 p) (λ e. h (form4-facts p e))
+
+pub form6-facts : (p : List ℕ) → form6 p ≡ true → Form6 p
+unfolding form6
+form6-facts p e =
+    let f = and-both _ _ e in
+    let g = and-both _ _ (f .0) in
+    record { long = leb-true _ _ (g .0); six = eqb-true _ _ (g .1); payload = eqb-true _ _ (f .1) }
+
+pub facts-form6 : (p : List ℕ) → Form6 p → form6 p ≡ true
+unfolding form6
+facts-form6 p f = simp (le-leb _ _ (f .long), eq-eqb _ _ (f .six), eq-eqb _ _ (f .payload))
+
+pub form6-fails : (p : List ℕ) → (Form6 p → ⊥) → form6 p ≡ false
+form6-fails p h = only-false (form6 p) (λ e. h (form6-facts p e))
+
+-- which of the two it is
+pub form-4 : {p : List ℕ} → Form4 p → Form p
+form-4 f = record { long = f .long; kind = inl f }
+
+pub form-6 : {p : List ℕ} → Form6 p → Form p
+form-6 f = record { long = omega arith; kind = inr f }
+
+either : (a b : Bool) → (a || b) ≡ true → (a ≡ true) ⊎ (b ≡ true)
+either true b e = inl refl
+either false b e = inr e
+
+or-right : (a b : Bool) → b ≡ true → (a || b) ≡ true
+or-right true b e = refl
+or-right false b e = e
+
+kind-form : (p : List ℕ) → (form4 p ≡ true) ⊎ (form6 p ≡ true) → Form p
+kind-form p (inl e) = form-4 (form4-facts p e)
+kind-form p (inr e) = form-6 (form6-facts p e)
+
+pub form-facts : (p : List ℕ) → form p ≡ true → Form p
+unfolding form
+form-facts p e = kind-form p (either (form4 p) (form6 p) e)
+
+form-kind : (p : List ℕ) → Form4 p ⊎ Form6 p → form p ≡ true
+unfolding form
+form-kind p (inl f) = simp (facts-form4 p f)
+form-kind p (inr f) = or-right (form4 p) (form6 p) (facts-form6 p f)
+
+pub facts-form : (p : List ℕ) → Form p → form p ≡ true
+facts-form p f = form-kind p (f .kind)
+
+pub form-fails : (p : List ℕ) → (Form p → ⊥) → form p ≡ false
+form-fails p h = only-false (form p) (λ e. h (form-facts p e))
+
+kind-4 : (p : List ℕ) → Form4 p ⊎ Form6 p → versionOf p ≡ 4 → Form4 p
+kind-4 p (inl f) e = f
+kind-4 p (inr f) e = absurd (omega arith)
+
+kind-6 : (p : List ℕ) → Form4 p ⊎ Form6 p → (versionOf p ≡ 4 → ⊥) → Form6 p
+kind-6 p (inl f) n = absurd (n (f .four))
+kind-6 p (inr f) n = f
+
+-- a packet of good form is one of the kind that its version says
+pub is-form4 : (p : List ℕ) → Form p → versionOf p ≡ 4 → Form4 p
+is-form4 p f e = kind-4 p (f .kind) e
+
+pub is-form6 : (p : List ℕ) → Form p → (versionOf p ≡ 4 → ⊥) → Form6 p
+is-form6 p f n = kind-6 p (f .kind) n
+
+-- of a version, the form is that of its kind
+pub form-of-4 : (p : List ℕ) → versionOf p ≡ 4 → form4 p ≡ form p
+unfolding form
+form-of-4 p e = rw (form6-fails p (λ f. omega arith)) (sym (or-false (form4 p)))
+  where
+    or-false : (b : Bool) → (b || false) ≡ b
+    or-false true = refl
+    or-false false = refl
+
+pub form-of-6 : (p : List ℕ) → versionOf p ≡ 6 → form6 p ≡ form p
+unfolding form
+form-of-6 p e = rw (form4-fails p (λ f. omega arith))
+
+kind-other : (p : List ℕ) → (versionOf p ≡ 4 → ⊥) → (versionOf p ≡ 6 → ⊥) → Form4 p ⊎ Form6 p → ⊥
+kind-other p n m (inl f) = n (f .four)
+kind-other p n m (inr f) = m (f .six)
+
+pub form-of-other : (p : List ℕ) → (versionOf p ≡ 4 → ⊥) → (versionOf p ≡ 6 → ⊥) → form p ≡ false
+form-of-other p n m = form-fails p (λ f. kind-other p n m (f .kind))

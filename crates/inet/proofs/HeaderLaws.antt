@@ -1,0 +1,74 @@
+-- What the header says, version by version. Assumes nothing.
+use mathlib.Core.Path.{_≡_, refl, sym, ap, _∙_}
+use mathlib.Core.Bool.{Bool, true, false}
+use mathlib.Core.List.{List}
+use Prim.Native.Nat.{ℕ, _/_, _≤_}
+use native.Mathlib.Omega.{arith}
+use lib.ListN.{length, getD, List·getD-eq-default}
+use lib.Dec.{eqb}
+use borrow.Author.Tests.{eq-eqb, ne-eqb}
+use Rattle.answer.specs.Choice.{pick}
+use Rattle.inet.specs.Packet.{versionOf, protocolOf, protocolByte, isIcmp, hopsOf}
+
+-- a choice by the version, in a packet of version 4, 6, and any other
+module _ {A : Type 0} (v : ℕ) (a b d : A) where
+  pub pick-4 : v ≡ 4 → pick (eqb v 4) a b ≡ a
+  pick-4 e = rw (eq-eqb v 4 e)
+
+  pub pick-not-4 : (v ≡ 4 → ⊥) → pick (eqb v 4) a b ≡ b
+  pick-not-4 n = rw (ne-eqb v 4 n)
+
+  pub pick-6 : v ≡ 6 → pick (eqb v 4) a (pick (eqb v 6) b d) ≡ b
+  pick-6 e = rw (ne-eqb v 4 (λ f. omega arith), eq-eqb v 6 e)
+
+  pub pick-other : (v ≡ 4 → ⊥) → (v ≡ 6 → ⊥) → pick (eqb v 4) a (pick (eqb v 6) b d) ≡ d
+  pick-other n m = rw (ne-eqb v 4 n, ne-eqb v 6 m)
+
+module _ (p : List ℕ) where
+  pub protocolOf-4 : versionOf p ≡ 4 → protocolOf p ≡ getD p 9 0
+  unfolding protocolOf
+  protocolOf-4 e = pick-4 (versionOf p) _ _ 0 e
+
+  pub protocolOf-6 : versionOf p ≡ 6 → protocolOf p ≡ getD p 6 0
+  unfolding protocolOf
+  protocolOf-6 e = pick-6 (versionOf p) _ _ 0 e
+
+  pub protocolOf-other : (versionOf p ≡ 4 → ⊥) → (versionOf p ≡ 6 → ⊥) → protocolOf p ≡ 0
+  unfolding protocolOf
+  protocolOf-other n m = pick-other (versionOf p) _ _ 0 n m
+
+  pub protocolByte-4 : versionOf p ≡ 4 → protocolByte p ≡ getD p 9 0
+  unfolding protocolByte
+  protocolByte-4 e = pick-4 (versionOf p) _ _ 0 e
+
+  pub protocolByte-6 : versionOf p ≡ 6 → protocolByte p ≡ getD p 6 0
+  unfolding protocolByte
+  protocolByte-6 e = pick-6 (versionOf p) _ _ 0 e
+
+  pub protocolByte-other : (versionOf p ≡ 4 → ⊥) → (versionOf p ≡ 6 → ⊥) → protocolByte p ≡ 0
+  unfolding protocolByte
+  protocolByte-other n m = pick-other (versionOf p) _ _ 0 n m
+
+  pub isIcmp-4 : versionOf p ≡ 4 → isIcmp p ≡ eqb (protocolOf p) 1
+  unfolding isIcmp
+  isIcmp-4 e = pick-4 (versionOf p) _ _ false e
+
+  pub isIcmp-6 : versionOf p ≡ 6 → isIcmp p ≡ eqb (protocolOf p) 58
+  unfolding isIcmp
+  isIcmp-6 e = pick-6 (versionOf p) _ _ false e
+
+  pub isIcmp-other : (versionOf p ≡ 4 → ⊥) → (versionOf p ≡ 6 → ⊥) → isIcmp p ≡ false
+  unfolding isIcmp
+  isIcmp-other n m = pick-other (versionOf p) _ _ false n m
+
+  pub hopsOf-4 : versionOf p ≡ 4 → hopsOf p ≡ getD p 8 0
+  unfolding hopsOf
+  hopsOf-4 e = ap (λ (i : ℕ). getD p i 0) (pick-4 (versionOf p) 8 7 0 e)
+
+  pub hopsOf-not-4 : (versionOf p ≡ 4 → ⊥) → hopsOf p ≡ getD p 7 0
+  unfolding hopsOf
+  hopsOf-not-4 n = ap (λ (i : ℕ). getD p i 0) (pick-not-4 (versionOf p) 8 7 0 n)
+
+-- past the end a byte reads as 0
+pub getD-past : (s : List ℕ) (i : ℕ) → length s ≤ i → 0 ≡ getD s i 0
+getD-past s i h = sym (List·getD-eq-default s 0 h)

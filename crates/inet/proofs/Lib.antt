@@ -1,0 +1,3 @@
+pub mod WordLaws
+pub mod FormFacts
+pub mod HeaderLaws

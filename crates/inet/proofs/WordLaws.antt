@@ -1,0 +1,64 @@
+-- The laws of `words` and `fold` that proofs cite, beside those of `SumLaws`. Assumes nothing.
+use mathlib.Core.Path.{_≡_, refl, ap, sym, _∙_}
+use mathlib.Core.List.{List, [], _∷_}
+use Prim.Native.Nat.{ℕ, zero, suc, _+_, _-_, _*_, _/_, _%_, _≤_, _<_}
+use native.Mathlib.Omega.{arith}
+use native.Mathlib.Numerals.{add-one}
+use lib.ListN.{length, drop, getD, drop-of-length-le}
+use lib.Seq.{drop-cons}
+use Rattle.inet.specs.Sum.{words, fold}
+
+pub fold-zero : fold 0 ≡ 0
+unfolding fold
+fold-zero = refl
+
+-- a sum is its fold and a multiple of 65535
+pub fold-quot : (s : ℕ) → s ≡ fold s + 65535 * ((s - 1) / 65535)
+unfolding fold
+fold-quot s = omega arith
+
+-- multiples of 65535 change no fold of a sum above 0
+pub fold-past : (s k : ℕ) → 0 < s → fold (s + 65535 * k) ≡ fold s
+unfolding fold
+fold-past s k h = omega arith
+
+pub fold-pos : (s : ℕ) → 0 < s → 0 < fold s
+unfolding fold
+fold-pos s h = omega arith
+
+-- folding a part first changes no fold
+pub fold-add : (a b : ℕ) → fold (fold a + b) ≡ fold (a + b)
+fold-add zero b = ap (λ (n : ℕ). fold (n + b)) fold-zero
+fold-add (suc a) b =
+    let p : 0 < fold (suc a) = fold-pos (suc a) (omega arith) in
+    let e : suc a + b ≡ (fold (suc a) + b) + 65535 * ((suc a - 1) / 65535) = omega (arith, fold-quot (suc a)) in
+    sym (ap fold e ∙ fold-past (fold (suc a) + b) ((suc a - 1) / 65535) (omega arith))
+
+-- the words from i on are the word at i and the words from i + 2 on
+pub words-step : (s : List ℕ) (i : ℕ) → i + 1 < length s → words (drop i s) ≡ getD s i 0 * 256 + getD s (i + 1) 0 + words (drop (i + 2) s)
+unfolding words
+words-step s i h =
+    let e : i + 2 ≡ suc (suc i) = omega arith in
+    let k : i < length s = omega arith in
+    let k2 : suc i < length s = omega arith in
+    rw (e, add-one, drop-cons s i 0, drop-cons s (suc i) 0)
+
+-- a last byte alone
+pub words-last : (s : List ℕ) (i : ℕ) → i + 1 ≡ length s → words (drop i s) ≡ getD s i 0 * 256
+unfolding words
+words-last s i h =
+    let k : i < length s = omega arith in
+    let e : length s ≤ suc i = omega arith in
+    rw (drop-cons s i 0, drop-of-length-le)
+
+-- nothing is left
+pub words-end : (s : List ℕ) (i : ℕ) → length s ≤ i → words (drop i s) ≡ 0
+unfolding words
+words-end s i h = rw drop-of-length-le
+
+-- a list whose first byte is not 0 has a sum above 0
+pub words-pos : (l : List ℕ) → 0 < getD l 0 0 → 0 < words l
+unfolding words
+words-pos [] h = h
+words-pos (a ∷ []) h = omega arith
+words-pos (a ∷ b ∷ r) h = omega arith

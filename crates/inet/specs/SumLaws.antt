@@ -1,0 +1,33 @@
+-- Why `fold` is the folded sum of RFC 1071: it is what is left when carries change nothing more, and its complement completes a sum. Assumes nothing.
+use mathlib.Core.Path.{_≡_, sym, _∙_}
+use Prim.Native.Nat.{ℕ, _+_, _-_, _<_}
+use native.Mathlib.Omega.{arith}
+use Rattle.inet.specs.Sum.{fold, carry}
+
+-- an end-around carry changes no fold
+pub fold-carry : (s : ℕ) → fold (carry s) ≡ fold s
+unfolding fold carry
+fold-carry s = omega arith
+
+-- what fits in 16 bits is its own fold
+pub fold-small : (s : ℕ) → s < 65536 → fold s ≡ s
+unfolding fold
+fold-small s h = omega arith
+
+-- a fold fits in 16 bits
+pub fold-fits : (s : ℕ) → fold s < 65536
+unfolding fold
+fold-fits s = omega arith
+
+-- the complement of a sum's fold completes the sum
+pub fold-completes : (s : ℕ) → 0 < s → fold (s + (65535 - fold s)) ≡ 65535
+unfolding fold
+fold-completes s h = omega arith
+
+carry-carry-fits : (s : ℕ) → s < 4294967296 → carry (carry s) < 65536
+unfolding carry
+carry-carry-fits s h = omega arith
+
+-- two carries fold a sum of 32 bits
+pub fold-two-carries : (s : ℕ) → s < 4294967296 → carry (carry s) ≡ fold s
+fold-two-carries s h = sym (fold-small (carry (carry s)) (carry-carry-fits s h)) ∙ fold-carry (carry s) ∙ fold-carry s
