@@ -2,13 +2,13 @@
 use Prim.Native.Nat.{ℕ, suc, _+_, _-_, _*_, _^_, _<_, _≤_}
 use mathlib.Core.Path.{_≡_, refl, sym, ap, _∙_}
 use mathlib.Core.List.{List, [], _∷_, _++_}
-use native.Mathlib.Nat.{pow-suc, pow-le-pow-right, lt-of-lt-of-le, one-le-pow, mul-assoc, mul-comm, mul-one, add-mul, add-zero, add-assoc}
+use native.Mathlib.Nat.{pow-suc, pow-le-pow-right, lt-of-lt-of-le, one-le-pow, mul-assoc, mul-comm, mul-one, add-mul, add-zero, add-assoc, one-mul}
 use native.Mathlib.Numerals.{add-one}
 use native.Mathlib.Omega.{arith}
 use lib.Dec.{lit<}
-use lib.ListN.{length, getD, take, drop, drop-of-length-le, length-take}
+use lib.ListN.{length, getD, take, drop, drop-of-length-le, length-take, length-drop}
 use lib.Seq.{drop-cons}
-use Rattle.octets.specs.Big.{bigFrom}
+use Rattle.octets.specs.Big.{bigFrom, bigAt}
 
 pub step : (acc i : ℕ) (s : List ℕ) (v : ℕ) → i < length s → bigFrom acc (drop i s) ≡ v
     → bigFrom (acc * 256 + getD s i 0) (drop (i + 1) s) ≡ v
@@ -55,3 +55,12 @@ shift acc (y ∷ ys) =
     let d : acc * 256 * p ≡ acc * 256 ^ suc (length ys) =
     mul-assoc acc 256 p ∙ ap (λ (n : ℕ). acc * n) (mul-comm 256 p ∙ sym (pow-suc 256 (length ys)))
     in shift (acc * 256 + y) ys ∙ rw (add-mul, add-assoc, d, z) (ap (λ (n : ℕ). acc * 256 ^ suc (length ys) + n) (sym (shift y ys)))
+
+-- the value of the n bytes at a place, and its bound
+pub part : (at n m r : ℕ) (s : List ℕ) → m ≡ n → at + n ≤ length s
+    → (r ≡ bigFrom 0 (take m (drop at s))) × (r < (0 + 1) * 256 ^ length (take m (drop at s)))
+    → (r ≡ bigAt at n s) × (r < 256 ^ n)
+part at n m r s e h f =
+    let l : length (take n (drop at s)) ≡ n = simp (length-take, length-drop) (omega arith) in
+    let g : r < 1 * 256 ^ n = rw (e, l) at (f .1) in
+    (rw e at (f .0), rw one-mul at g)

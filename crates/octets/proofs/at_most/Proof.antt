@@ -1,16 +1,18 @@
-use borrow.Author.Needs.{needs}
+-- `octets::at_most` meets its contract, by the order of two words. Assumes nothing.
+use native.Mathlib.Omega.{arith}
+use Rattle.octets.proofs.WideOrder.{le-low, le-high}
 use Rattle.octets.proofs.at_most.Statement.{statement}
 use Rattle.octets.proofs.at_most.Tie as tie
-use Rattle.octets.proofs.at_most.Reads as reads
-use Rattle.octets.proofs.at_most.Lts as lts
 
--- src/lib.rt:53:9
 returns : tie.Need-returns
-returns c = search needs
+returns c =
+    let a = c .before .args in
+    le-low (a .a-hi) (a .a-lo) (a .b-hi) (a .b-lo) (omega arith)
 
--- src/lib.rt:49:1
 returns-2 : tie.Need-returns-2
-returns-2 c = search needs
+returns-2 c =
+    let a = c .before .args in
+    le-high (a .a-hi) (a .a-lo) (a .b-hi) (a .b-lo) (omega arith) (omega arith) (omega arith)
 
 pub at-most-spec : {M : Type 1} → statement M
 at-most-spec = tie.close (tie.spec returns returns-2)

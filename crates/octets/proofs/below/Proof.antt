@@ -1,16 +1,18 @@
-use borrow.Author.Needs.{needs}
+-- `octets::below` meets its contract, by the order of two words. Assumes nothing.
+use native.Mathlib.Omega.{arith}
+use Rattle.octets.proofs.WideOrder.{lt-low, lt-high}
 use Rattle.octets.proofs.below.Statement.{statement}
 use Rattle.octets.proofs.below.Tie as tie
-use Rattle.octets.proofs.below.Reads as reads
-use Rattle.octets.proofs.below.Lts as lts
 
--- src/lib.rt:63:9
 returns : tie.Need-returns
-returns c = search needs
+returns c =
+    let a = c .before .args in
+    lt-low (a .a-hi) (a .a-lo) (a .b-hi) (a .b-lo) (omega arith)
 
--- src/lib.rt:59:1
 returns-2 : tie.Need-returns-2
-returns-2 c = search needs
+returns-2 c =
+    let a = c .before .args in
+    lt-high (a .a-hi) (a .a-lo) (a .b-hi) (a .b-lo) (omega arith) (omega arith) (omega arith)
 
 pub below-spec : {M : Type 1} → statement M
 below-spec = tie.close (tie.spec returns returns-2)

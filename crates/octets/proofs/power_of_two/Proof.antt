@@ -1,38 +1,47 @@
-use borrow.Author.Needs.{needs}
+-- `octets::power_of_two` meets its contract: after i turns the result is 2^i. Assumes nothing.
+use Prim.Native.Nat.{ℕ, _+_, _-_, _^_, _<_, _≤_}
+use mathlib.Core.Path.{_≡_, refl}
+use native.Mathlib.Omega.{arith}
+use native.Mathlib.Nat.{pow-suc}
+use native.Mathlib.Numerals.{add-one}
+use lib.Pow.{pow-mono}
 use Rattle.octets.proofs.power_of_two.Statement.{statement}
 use Rattle.octets.proofs.power_of_two.Tie as tie
-use Rattle.octets.proofs.power_of_two.Reads as reads
-use Rattle.octets.proofs.power_of_two.Lts as lts
 
 abbrev Inv-loop : tie.InvT-loop
-Inv-loop k r₀ i₀ r i = ?
+Inv-loop k r₀ i₀ r i = (i ≤ k) × (r ≡ 2 ^ i)
 
 abbrev μ-loop : tie.MeasureT-loop
-μ-loop k r₀ i₀ r i = ?
+μ-loop k r₀ i₀ r i = k - i
 
--- src/lib.rt:75:5
 loop-holds : tie.Need-loop-holds Inv-loop μ-loop
-loop-holds c = search needs
+loop-holds c =
+    (omega arith, refl)
 
--- src/lib.rt:76:13
 mul-r : tie.Need-mul-r Inv-loop μ-loop
-mul-r c = search needs
+mul-r c =
+    let l = c .before .loop in
+    let m : 2 ^ l .i ≤ 2 ^ 62 = pow-mono {j = 62} (omega arith) in
+    omega arith
 
--- src/lib.rt:77:9
 add-i : tie.Need-add-i Inv-loop μ-loop
-add-i c = search needs
+add-i c =
+    omega arith
 
--- src/lib.rt:75:5
 loop-less : tie.Need-loop-less Inv-loop μ-loop
-loop-less c = search needs
+loop-less c =
+    omega arith
 
--- src/lib.rt:75:5
 loop-again : tie.Need-loop-again Inv-loop μ-loop
-loop-again c = search needs
+loop-again c =
+    let l = c .before .loop in
+    (omega arith, rw (add-one, pow-suc, l .inv .1))
 
--- src/lib.rt:69:1
 returns : tie.Need-returns Inv-loop μ-loop
-returns c = search needs
+returns c =
+    let l = c .before .loop in
+    let e : l .i ≡ c .before .before .args .k = omega arith in
+    rw (l .inv .1, e)
 
 pub power-of-two-spec : {M : Type 1} → statement M
 power-of-two-spec =

@@ -1,46 +1,57 @@
-use borrow.Author.Needs.{needs}
+-- `octets::put_digits` meets its contract. The digits still to be written, and then what was written, are the whole.
+-- Assumes nothing.
+use Prim.Native.Nat.{ℕ, _+_, _-_, _^_, _<_, _≤_}
+use mathlib.Core.Path.{_≡_, refl}
+use mathlib.Core.List.{_++_}
+use native.Mathlib.Omega.{arith}
+use lib.ListN.{length, drop, getD, length-set}
+use Rattle.octets.specs.Big.{digits}
+use Rattle.octets.proofs.DigitsLaws as Digits
 use Rattle.octets.proofs.put_digits.Statement.{statement}
 use Rattle.octets.proofs.put_digits.Tie as tie
-use Rattle.octets.proofs.put_digits.Reads as reads
-use Rattle.octets.proofs.put_digits.Lts as lts
 
 abbrev Inv-loop : tie.InvT-loop
-Inv-loop out₀ n v rest₀ i₀ out rest i = ?
+Inv-loop out₀ n v rest₀ i₀ out rest i =
+    (i ≤ length out) × (length out ≡ length out₀) × (digits i rest ++ drop i out ≡ digits n v ++ drop n out₀)
 
 abbrev μ-loop : tie.MeasureT-loop
-μ-loop out₀ n v rest₀ i₀ out rest i = ?
+μ-loop out₀ n v rest₀ i₀ out rest i = i
 
--- src/lib.rt:41:5
 loop-holds : tie.Need-loop-holds Inv-loop μ-loop
-loop-holds c = search needs
+loop-holds c =
+    (omega arith, refl, refl)
 
--- src/lib.rt:42:9
 sub-i : tie.Need-sub-i Inv-loop μ-loop
-sub-i c = search needs
+sub-i c =
+    omega arith
 
--- src/lib.rt:43:18
 cast-out : tie.Need-cast-out Inv-loop μ-loop
-cast-out c = search needs
+cast-out c =
+    omega arith
 
--- src/lib.rt:43:9
 slice-write-out : tie.Need-slice-write-out Inv-loop μ-loop
-slice-write-out c = search needs
+slice-write-out c =
+    omega arith
 
--- src/lib.rt:41:5
 loop-less : tie.Need-loop-less Inv-loop μ-loop
-loop-less c = search needs
+loop-less c =
+    omega arith
 
--- src/lib.rt:41:5
 loop-again : tie.Need-loop-again Inv-loop μ-loop
-loop-again c = search needs
+loop-again c =
+    let l = c .before .loop in (
+      simp length-set (omega arith),
+      simp length-set (l .inv .1),
+      Digits.step (l .i) (l .rest) (l .out) _ (omega arith) (omega arith) (l .inv .2),
+    )
 
--- src/lib.rt:35:1
 same-length : tie.Need-same-length Inv-loop μ-loop
-same-length c = search needs
+same-length c =
+    c .before .loop .inv .1
 
--- src/lib.rt:35:1
 returns : tie.Need-returns Inv-loop μ-loop
-returns c = search needs
+returns c =
+    Digits.end (c .before .loop .i) (c .before .loop .rest) _ _ (omega arith) (c .before .loop .inv .2)
 
 pub put-digits-spec : {M : Type 1} → statement M
 put-digits-spec =
