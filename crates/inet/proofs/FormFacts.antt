@@ -100,6 +100,9 @@ is-form4 p f e = kind-4 p (f .kind) e
 pub is-form6 : (p : List ℕ) → Form p → (versionOf p ≡ 4 → ⊥) → Form6 p
 is-form6 p f n = kind-6 p (f .kind) n
 
+pub form6-long : {p : List ℕ} → Form p → (versionOf p ≡ 4 → ⊥) → 40 ≤ length p
+form6-long {p} f n = is-form6 p f n .long
+
 -- of a version, the form is that of its kind
 pub form-of-4 : (p : List ℕ) → versionOf p ≡ 4 → form4 p ≡ form p
 unfolding form

@@ -8,7 +8,8 @@ use lib.ListN.{length, getD, List·getD-eq-default}
 use lib.Dec.{eqb}
 use borrow.Author.Tests.{eq-eqb, ne-eqb}
 use Rattle.answer.specs.Choice.{pick}
-use Rattle.inet.specs.Packet.{versionOf, protocolOf, protocolByte, isIcmp, hopsOf}
+use Rattle.inet.specs.declared.Address.{Address}
+use Rattle.inet.specs.Packet.{versionOf, address4At, address6At, sourceOf, destinationOf, protocolOf, protocolByte, isIcmp, hopsOf}
 
 -- a choice by the version, in a packet of version 4, 6, and any other
 module _ {A : Type 0} (v : ℕ) (a b d : A) where
@@ -25,6 +26,22 @@ module _ {A : Type 0} (v : ℕ) (a b d : A) where
   pick-other n m = rw (ne-eqb v 4 n, ne-eqb v 6 m)
 
 module _ (p : List ℕ) where
+  pub sourceOf-4 : versionOf p ≡ 4 → sourceOf p ≡ address4At 12 p
+  unfolding sourceOf
+  sourceOf-4 e = pick-4 (versionOf p) (address4At 12 p) (address6At 8 p) (address6At 8 p) e
+
+  pub sourceOf-not-4 : (versionOf p ≡ 4 → ⊥) → sourceOf p ≡ address6At 8 p
+  unfolding sourceOf
+  sourceOf-not-4 n = pick-not-4 (versionOf p) (address4At 12 p) (address6At 8 p) (address6At 8 p) n
+
+  pub destinationOf-4 : versionOf p ≡ 4 → destinationOf p ≡ address4At 16 p
+  unfolding destinationOf
+  destinationOf-4 e = pick-4 (versionOf p) (address4At 16 p) (address6At 24 p) (address6At 24 p) e
+
+  pub destinationOf-not-4 : (versionOf p ≡ 4 → ⊥) → destinationOf p ≡ address6At 24 p
+  unfolding destinationOf
+  destinationOf-not-4 n = pick-not-4 (versionOf p) (address4At 16 p) (address6At 24 p) (address6At 24 p) n
+
   pub protocolOf-4 : versionOf p ≡ 4 → protocolOf p ≡ getD p 9 0
   unfolding protocolOf
   protocolOf-4 e = pick-4 (versionOf p) _ _ 0 e
@@ -72,3 +89,7 @@ module _ (p : List ℕ) where
 -- past the end a byte reads as 0
 pub getD-past : (s : List ℕ) (i : ℕ) → length s ≤ i → 0 ≡ getD s i 0
 getD-past s i h = sym (List·getD-eq-default s 0 h)
+
+-- an address by its parts
+pub address-parts : {v w h i l m : ℕ} → v ≡ w → h ≡ i → l ≡ m → _≡_ {A = Address} (record { version = v; hi = h; lo = l }) (record { version = w; hi = i; lo = m })
+address-parts e f g = cc

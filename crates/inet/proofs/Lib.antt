@@ -1,3 +1,6 @@
 pub mod WordLaws
 pub mod FormFacts
 pub mod HeaderLaws
+pub mod FieldLaws
+pub mod LoweredLaws
+pub mod TransportLaws

@@ -1,3 +1,4 @@
 pub mod Sum
 pub mod SumLaws
 pub mod Packet
+pub mod Transport

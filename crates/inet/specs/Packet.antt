@@ -7,6 +7,8 @@ use mathlib.Core.Path.{_≡_}
 use lib.ListN.{length, getD, take, drop, set}
 use lib.Dec.{leb, eqb}
 use Rattle.answer.specs.Choice.{pick}
+use Rattle.octets.specs.Big.{bigAt}
+use Rattle.inet.specs.declared.Address.{Address}
 use Rattle.inet.specs.Sum.{words, fold}
 
 -- the version: the high half of byte 0
@@ -52,6 +54,21 @@ pub record Form6 (p : List ℕ) : Type 0 where
 pub record Form (p : List ℕ) : Type 0 where
   pub long : 20 ≤ length p
   pub kind : Form4 p ⊎ Form6 p
+
+-- an address of 4 bytes, and one of 16
+abbrev pub address4At : ℕ → List ℕ → Address
+address4At i p = record { version = 4; hi = 0; lo = bigAt i 4 p }
+
+abbrev pub address6At : ℕ → List ℕ → Address
+address6At i p = record { version = versionOf p; hi = bigAt i 8 p; lo = bigAt (i + 8) 8 p }
+
+-- the source address: bytes 12 to 15 of IPv4, 8 to 23 of IPv6
+unfoldable pub sourceOf : List ℕ → Address
+sourceOf p = pick (eqb (versionOf p) 4) (address4At 12 p) (address6At 8 p)
+
+-- the destination address: bytes 16 to 19 of IPv4, 24 to 39 of IPv6
+unfoldable pub destinationOf : List ℕ → Address
+destinationOf p = pick (eqb (versionOf p) 4) (address4At 16 p) (address6At 24 p)
 
 -- the protocol that grants are about: byte 9 of IPv4, byte 6 of IPv6, and 0 of any other version
 unfoldable pub protocolOf : List ℕ → ℕ

@@ -2,7 +2,9 @@
 ghost use mathlib.Core.Path.{_≡_};
 ghost use Prim.Native.Nat.{_≤_, _<_, _+_, _*_};
 ghost use lib.ListN.{length, getD};
-ghost use Rattle.inet.specs.Packet.{versionOf, form4, form6, form, protocolOf, protocolByte, isIcmp, hopsOf};
+ghost use Rattle.inet.specs.Packet.{versionOf, form4, form6, form, Form, address4At, address6At, sourceOf, destinationOf};
+ghost use Rattle.inet.specs.Packet.{protocolOf, protocolByte, isIcmp, hopsOf};
+use super::Address;
 use super::sum::folded;
 use super::sum::sum_words;
 use super::sum::word;
@@ -73,6 +75,54 @@ pub fn version(packet: &[u8]) -> u8
     ensures { λ r. ⌜ (r ≡ versionOf (now (packet .entry))) × (r < 16) ⌝ }
 {
     byte_at(packet, 0) / 16
+}
+
+// The source address. The form tells that the address is all there.
+pub fn source(packet: &[u8]) -> Address
+    requires { ⌜ Form (now packet) ⌝ }
+    ensures { λ r. ⌜ r ≡ sourceOf (now (packet .entry)) ⌝ }
+{
+    if version(packet) == 4 {
+        return address4(packet, 12);
+    }
+    address6(packet, 8)
+}
+
+// The destination address. The form tells that the address is all there.
+pub fn destination(packet: &[u8]) -> Address
+    requires { ⌜ Form (now packet) ⌝ }
+    ensures { λ r. ⌜ r ≡ destinationOf (now (packet .entry)) ⌝ }
+{
+    if version(packet) == 4 {
+        return address4(packet, 16);
+    }
+    address6(packet, 24)
+}
+
+fn address4(packet: &[u8], at: usize) -> Address
+    requires { ⌜ at + 4 ≤ length (now packet) ⌝ }
+    ensures { λ r. ⌜ r ≡ address4At at (now (packet .entry)) ⌝ }
+{
+    let lo = octets::big_at(packet, at, 4);
+    Address {
+        version: 4,
+        hi: 0,
+        lo: lo,
+    }
+}
+
+fn address6(packet: &[u8], at: usize) -> Address
+    requires { ⌜ at + 16 ≤ length (now packet) ⌝ }
+    ensures { λ r. ⌜ r ≡ address6At at (now (packet .entry)) ⌝ }
+{
+    let v = version(packet);
+    let hi = octets::big_at(packet, at, 8);
+    let lo = octets::big_at(packet, at + 8, 8);
+    Address {
+        version: v,
+        hi: hi,
+        lo: lo,
+    }
 }
 
 // The protocol that grants are about.

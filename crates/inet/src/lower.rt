@@ -1,0 +1,49 @@
+// The packet with one hop fewer, made in a lent image.
+ghost use mathlib.Core.Path.{_≡_};
+ghost use mathlib.Core.List.{_++_};
+ghost use Prim.Native.Nat.{_≤_, _<_, _+_};
+ghost use lib.ListN.{length, getD, drop};
+ghost use Rattle.inet.specs.Packet.{Form, Form4, hopsOf, lowered4, hop6, lowered};
+use super::field::put_word;
+use super::packet::version;
+use super::sum::folded;
+use super::sum::sum_words;
+
+// Copies the packet to the front of image, and lowers it there. The form tells where its hop count and its header are.
+pub fn lower_into(packet: &[u8], image: &mut [u8])
+    requires { ⌜ Form (now packet) ⌝ }
+    requires { ⌜ 1 ≤ hopsOf (now packet) ⌝ }
+    requires { ⌜ length (now packet) ≤ length (now image) ⌝ }
+    ensures { λ _. ⌜ now (image .exit) ≡ lowered (now (packet .entry)) ++ drop (length (now (packet .entry))) (now (image .entry)) ⌝ }
+{
+    bytes::copy(packet, image);
+    let n = packet.len();
+    if version(packet) == 4 {
+        lower4(&mut image[..n]);
+    } else {
+        lower6(&mut image[..n]);
+    }
+}
+
+// Lowers an IPv4 packet where it lies.
+fn lower4(p: &mut [u8])
+    requires { ⌜ Form4 (now p) ⌝ }
+    requires { ⌜ 1 ≤ getD (now p) 8 0 ⌝ }
+    ensures { λ _. ⌜ now (p .exit) ≡ lowered4 (now (p .entry)) ⌝ }
+{
+    let n = (p[0] % 16) as usize * 4;
+    let hops = p[8];
+    p[8] = hops - 1;
+    put_word(p, 10, 0);
+    let sum = sum_words(&p[..n]);
+    put_word(p, 10, 65535 - folded(sum));
+}
+
+// Lowers an IPv6 packet where it lies.
+fn lower6(p: &mut [u8])
+    requires { ⌜ (8 ≤ length (now p)) × (1 ≤ getD (now p) 7 0) ⌝ }
+    ensures { λ _. ⌜ now (p .exit) ≡ hop6 (now (p .entry)) ⌝ }
+{
+    let hops = p[7];
+    p[7] = hops - 1;
+}
