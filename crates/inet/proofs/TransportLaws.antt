@@ -7,7 +7,7 @@ use Prim.Native.Nat.{ℕ, _+_, _-_, _*_, _/_, _%_, _≤_, _<_}
 use native.Mathlib.Omega.{arith}
 use lib.ListN.{length, getD, take, drop, length-drop}
 use lib.Dec.{eqb, leb}
-use borrow.Author.Tests.{eqb-false, eq-eqb, ne-eqb}
+use borrow.Author.Tests.{eqb-true, eqb-false, eq-eqb, ne-eqb}
 use Rattle.answer.specs.Choice.{pick}
 use Rattle.answer.proofs.Tests.{true-or-false}
 use Rattle.octets.proofs.Parts.{tail}
@@ -65,3 +65,87 @@ finish-fits start q = sent-fits (protocolByte q) (65535 - fold (words (drop star
 pub finish-steps : (q : List ℕ) (start sum f : ℕ) → sum ≡ words (take (length q - start) (drop start q)) → f ≡ fold sum → finish start q ≡ sent (protocolByte q) (65535 - f)
 unfolding finish
 finish-steps q start sum f e1 e2 = rw (e2, e1, tail start q)
+
+-- what lowering a packet keeps
+module _ (p : List ℕ) where
+  pub lowered-addressWords : addressWords (lowered p) ≡ addressWords p
+  unfolding addressWords
+  lowered-addressWords =
+      ap (λ (v : ℕ). pick (eqb v 4) (words (take 8 (drop 12 (lowered p)))) (words (take 32 (drop 8 (lowered p))))) (lowered-version p)
+      ∙ pick-same (eqb (versionOf p) 4) (words (take 8 (drop 12 (lowered p)))) (words (take 32 (drop 8 (lowered p)))) (words (take 8 (drop 12 p))) (words (take 32 (drop 8 p)))
+      (λ _. ap (λ (l : List ℕ). words (take 8 l)) (lowered-drop p 12 (omega arith)))
+      (λ e. ap (λ (l : List ℕ). words (take 32 l)) (lowered-drop-6 p (eqb-false _ _ e) 8 (omega arith)))
+
+  pub lowered-seed : (start : ℕ) → seed start (lowered p) ≡ seed start p
+  unfolding seed
+  lowered-seed start = rw (lowered-addressWords, lowered-protocolByte p, lowered-length p)
+
+  pub lowered-fieldIs : (field v : ℕ) → 12 ≤ field → fieldIs field v (lowered p) ≡ fieldIs field v p
+  unfolding fieldIs
+  lowered-fieldIs field v h =
+      rw (lowered-at p field (omega arith) (omega arith) (omega arith) (omega arith), lowered-at p (field + 1) (omega arith) (omega arith) (omega arith) (omega arith))
+
+-- a word put past the header's bytes leaves the protocol byte
+pub setField-protocolByte : (field v : ℕ) (p : List ℕ) → 10 ≤ field → protocolByte (setField field v p) ≡ protocolByte p
+unfolding protocolByte
+setField-protocolByte field v p h =
+    rw (put-other p field v 0 (omega arith) (omega arith), put-other p field v 9 (omega arith) (omega arith), put-other p field v 6 (omega arith) (omega arith))
+
+-- a checksum is of the bytes from start on and the protocol byte
+pub finish-same : (start : ℕ) (q r : List ℕ) → drop start q ≡ drop start r → protocolByte q ≡ protocolByte r → finish start q ≡ finish start r
+unfolding finish
+finish-same start q r e f = rw (e, f)
+
+module _ (p : List ℕ) (field start : ℕ) (low : 12 ≤ start) (in-order : start ≤ field) where
+  lowered-set-drop : (v : ℕ) → drop start (setField field v (lowered p)) ≡ drop start (setField field v p)
+  lowered-set-drop v =
+      drop-put-from (lowered p) start field v in-order ∙ ap (λ (l : List ℕ). put16 l (field - start) v) (lowered-drop p start low)
+      ∙ sym (drop-put-from p start field v in-order)
+
+  lowered-set-byte : (v : ℕ) → protocolByte (setField field v (lowered p)) ≡ protocolByte (setField field v p)
+  lowered-set-byte v =
+      setField-protocolByte field v (lowered p) (omega arith) ∙ lowered-protocolByte p ∙ sym (setField-protocolByte field v p (omega arith))
+
+  pub lowered-completion : completion field start (lowered p) ≡ completion field start p
+  unfolding completion
+  lowered-completion =
+      ap (λ (v : ℕ). finish start (setField field v (lowered p))) (lowered-seed p start)
+      ∙ finish-same start (setField field (seed start p) (lowered p)) (setField field (seed start p) p) (lowered-set-drop (seed start p)) (lowered-set-byte (seed start p))
+
+  pub lowered-damaged : damaged field start (lowered p) ≡ damaged field start p
+  unfolding damaged
+  lowered-damaged = rw (lowered-completion, lowered-length p, lowered-fieldIs p field (completion field start p) (omega arith))
+
+udp : (s : ℕ) → 0 < s → fold s ≡ 65535 → fold (s + 65535) ≡ 65535
+unfolding fold
+udp s h e = omega arith
+
+-- a sum and the checksum that is sent for it add up
+pub sent-completes : (protocol s : ℕ) → 0 < s → fold (s + sent protocol (65535 - fold s)) ≡ 65535
+unfolding sent
+sent-completes protocol s h = go (eqb (65535 - fold s) 0) refl (eqb protocol 17)
+  where
+    go : (a : Bool) → eqb (65535 - fold s) 0 ≡ a → (b : Bool) → fold (s + pick (a && b) 65535 (65535 - fold s)) ≡ 65535
+    go true e true = udp s h (omega (arith, fold-fits s, eqb-true (65535 - fold s) 0 e))
+    go true e false = fold-completes s h
+    go false e b = fold-completes s h
+
+-- what a receiver adds up: the pseudo-header and the words from start on of a packet with its checksum come to 65535
+pub completed-sums : (field start : ℕ) (p : List ℕ) → start ≤ field → 10 ≤ field → (field - start) % 2 ≡ 0 → field + 1 < length p → fold (pseudoSum start p + words (drop start (setField field (completion field start p) p))) ≡ 65535
+unfolding completion finish seed
+completed-sums field start p g ten e h =
+    let t = drop start p in
+    let i = field - start in
+    let k : i + 1 < length t = omega (arith, length-drop start p) in
+    let s = pseudoSum start p in
+    let w = words (put16 t i 0) in
+    let z : 0 < s + w = omega arith in
+    let f : fold (words (drop start (setField field (fold s) p))) ≡ fold (s + w) =
+    ap (λ (l : List ℕ). fold (words l)) (drop-put-from p start field (fold s) g)
+    ∙ ap fold (words-put t i (fold s) e k)
+    ∙ ap fold (omega arith)
+    ∙ fold-add s w
+    in
+    let c = sent (protocolByte p) (65535 - fold (s + w)) in
+    rw (f, setField-protocolByte field (fold s) p ten, drop-put-from p start field c g)
+    (ap fold (omega (arith, words-put t i c e k)) ∙ sent-completes (protocolByte p) (s + w) z)

@@ -2,3 +2,4 @@ pub mod Sum
 pub mod SumLaws
 pub mod Packet
 pub mod Transport
+pub mod Examples
