@@ -66,13 +66,13 @@ module _ (p : List ℕ) where
   unfolding protocolByte
   protocolByte-other n m = pick-other (versionOf p) _ _ 0 n m
 
-  pub isIcmp-4 : versionOf p ≡ 4 → isIcmp p ≡ eqb (protocolOf p) 1
+  pub isIcmp-4 : {q : ℕ} → versionOf p ≡ 4 → q ≡ protocolOf p → eqb q 1 ≡ isIcmp p
   unfolding isIcmp
-  isIcmp-4 e = pick-4 (versionOf p) _ _ false e
+  isIcmp-4 e f = rw f (sym (pick-4 (versionOf p) (eqb (protocolOf p) 1) _ false e))
 
-  pub isIcmp-6 : versionOf p ≡ 6 → isIcmp p ≡ eqb (protocolOf p) 58
+  pub isIcmp-6 : {q : ℕ} → versionOf p ≡ 6 → q ≡ protocolOf p → eqb q 58 ≡ isIcmp p
   unfolding isIcmp
-  isIcmp-6 e = pick-6 (versionOf p) _ _ false e
+  isIcmp-6 e f = rw f (sym (pick-6 (versionOf p) (eqb (protocolOf p) 1) (eqb (protocolOf p) 58) false e))
 
   pub isIcmp-other : (versionOf p ≡ 4 → ⊥) → (versionOf p ≡ 6 → ⊥) → isIcmp p ≡ false
   unfolding isIcmp

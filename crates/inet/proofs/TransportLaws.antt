@@ -61,10 +61,20 @@ pub finish-fits : (start : ℕ) (q : List ℕ) → finish start q < 65536
 unfolding finish
 finish-fits start q = sent-fits (protocolByte q) (65535 - fold (words (drop start q))) (omega arith)
 
--- the steps by which the code finishes a checksum
-pub finish-steps : (q : List ℕ) (start sum f : ℕ) → sum ≡ words (take (length q - start) (drop start q)) → f ≡ fold sum → finish start q ≡ sent (protocolByte q) (65535 - f)
-unfolding finish
-finish-steps q start sum f e1 e2 = rw (e2, e1, tail start q)
+-- the steps by which the code finishes a checksum, and its three ends
+module _ (q : List ℕ) (start : ℕ) {sum f : ℕ} (added : sum ≡ words (take (length q - start) (drop start q))) (folded : f ≡ fold sum) where
+  finish-steps : finish start q ≡ sent (protocolByte q) (65535 - f)
+  unfolding finish
+  finish-steps = rw (folded, added, tail start q)
+
+  pub finish-udp : 65535 - f ≡ 0 → protocolByte q ≡ 17 → finish start q ≡ 65535
+  finish-udp z e = finish-steps ∙ sent-udp (protocolByte q) (65535 - f) z e
+
+  pub finish-other : (protocolByte q ≡ 17 → ⊥) → finish start q ≡ 65535 - f
+  finish-other n = finish-steps ∙ sent-other (protocolByte q) (65535 - f) n
+
+  pub finish-nonzero : (65535 - f ≡ 0 → ⊥) → finish start q ≡ 65535 - f
+  finish-nonzero n = finish-steps ∙ sent-nonzero (protocolByte q) (65535 - f) n
 
 -- what lowering a packet keeps
 module _ (p : List ℕ) where

@@ -1,3 +1,4 @@
+-- The steps of the code are those of `lowered4`: the field taken as 0, the header's words, their fold, its complement (`lower4-steps`). Assumes nothing.
 use mathlib.Core.Path.{_≡_, ap, _∙_}
 use native.Mathlib.Omega.{arith}
 use lib.ListN.{length, length-set, length-take}
@@ -6,11 +7,6 @@ use Rattle.inet.proofs.LoweredLaws.{lower4-steps, low4-length}
 use borrow.Author.Needs.{needs}
 use Rattle.inet.proofs.lower.lower4.Statement.{statement}
 use Rattle.inet.proofs.lower.lower4.Tie as tie
-use Rattle.inet.proofs.lower.lower4.Reads as reads
-use Rattle.inet.proofs.lower.lower4.Lts as lts
-use Rattle.inet.proofs.field.put_word.Reads as put-word-reads
-use Rattle.inet.proofs.sum.folded.Reads as folded-reads
-use Rattle.inet.proofs.sum.sum_words.Reads as sum-words-reads
 
 -- the packet's length is as it was after the first `put_word`
 long : (c : tie.After-put-word) → length (c .put-word .last .0) ≡ length (c .before .before .before .before .before .args .p .now)
@@ -19,63 +15,48 @@ long c = omega (arith, simp length-set at (c .put-word .kept .0))
 done : (c : tie.After-slice-known5) → c .before .before .put-word2 .last .0 ≡ lowered4 (c .before .before .before .before .before .before .before .before .before .before .before .before .before .before .args .p .now)
 done c = lower4-steps _ _ _ _ _ (c .before .before .before .before .before .before .before .before .before .put-word .ensures) (c .before .before .before .before .before .sum-words .ensures .0) (c .before .before .before .folded .ensures .0) (c .before .before .put-word2 .ensures)
 
--- src/lower.rt:34:14
 slice-read-n : tie.Need-slice-read-n
 slice-read-n c = search needs
 
--- src/lower.rt:34:13
 cast-n : tie.Need-cast-n
 cast-n c = search needs
 
--- src/lower.rt:34:13
 mul-n : tie.Need-mul-n
 mul-n c = search needs
 
--- src/lower.rt:35:16
 slice-read-hops : tie.Need-slice-read-hops
 slice-read-hops c = search needs
 
--- src/lower.rt:36:12
 sub-p : tie.Need-sub-p
 sub-p c = search needs
 
--- src/lower.rt:36:5
 slice-write-p : tie.Need-slice-write-p
 slice-write-p c = search needs
 
--- src/lower.rt:37:5
 put-word-requires : tie.Need-put-word-requires
 put-word-requires c κs = simp length-set (omega arith)
 
--- src/lower.rt:38:25
 slice-reshare-prefix-sum-words : tie.Need-slice-reshare-prefix-sum-words
 slice-reshare-prefix-sum-words c = omega (arith, long (c .before .before))
 
--- src/lower.rt:38:25
 slice-aggregate-sum-words : tie.Need-slice-aggregate-sum-words
 slice-aggregate-sum-words c = simp length-take (omega (arith, long (c .before .before .before)))
 
--- src/lower.rt:38:9
 sum-words-requires : tie.Need-sum-words-requires
 sum-words-requires c κs = simp length-take (omega arith)
 
--- src/lower.rt:39:29
 folded-requires : tie.Need-folded-requires
 folded-requires c κs = search needs
 
--- src/lower.rt:39:21
 sub-put-word : tie.Need-sub-put-word
 sub-put-word c = search needs
 
--- src/lower.rt:39:5
 put-word-requires-2 : tie.Need-put-word-requires-2
 put-word-requires-2 c κs = omega (arith, long (c .before .before .before .before .before .before))
 
--- src/lower.rt:29:1
 same-length : tie.Need-same-length
 same-length c = ap length (done c) ∙ low4-length _
 
--- src/lower.rt:29:1
 returns : tie.Need-returns
 returns c = done c
 

@@ -1,3 +1,4 @@
+-- A test that fails refutes the facts of `Form4`; all that pass prove them. Assumes nothing.
 use mathlib.Core.Path.{sym, ap, _∙_}
 use native.Mathlib.Omega.{arith}
 use lib.ListN.{length-take}

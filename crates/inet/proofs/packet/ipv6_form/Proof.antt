@@ -1,46 +1,35 @@
+-- A test that fails refutes the facts of `Form6`; all that pass prove them. Assumes nothing.
 use mathlib.Core.Path.{sym}
 use native.Mathlib.Omega.{arith}
 use Rattle.inet.proofs.FormFacts.{form6-fails, facts-form6}
 use borrow.Author.Needs.{needs}
 use Rattle.inet.proofs.packet.ipv6_form.Statement.{statement}
 use Rattle.inet.proofs.packet.ipv6_form.Tie as tie
-use Rattle.inet.proofs.packet.ipv6_form.Reads as reads
-use Rattle.inet.proofs.packet.ipv6_form.Lts as lts
-use Rattle.inet.proofs.sum.word.Reads as word-reads
 
--- src/packet.rt:52:9
 returns : tie.Need-returns
 returns c = sym (form6-fails _ (λ f. omega arith))
 
--- src/packet.rt:54:8
 shared-slice-read-if2 : tie.Need-shared-slice-read-if2
 shared-slice-read-if2 c = search needs
 
--- src/packet.rt:55:9
 returns-2 : tie.Need-returns-2
 returns-2 c = sym (form6-fails _ (λ f. omega arith))
 
--- src/packet.rt:57:13
 shared-slice-read-word : tie.Need-shared-slice-read-word
 shared-slice-read-word c = search needs
 
--- src/packet.rt:57:19
 shared-slice-read-word-2 : tie.Need-shared-slice-read-word-2
 shared-slice-read-word-2 c = search needs
 
--- src/packet.rt:57:8
 word-requires : tie.Need-word-requires
 word-requires c κs = search needs
 
--- src/packet.rt:57:8
 add-if3 : tie.Need-add-if3
 add-if3 c = search needs
 
--- src/packet.rt:58:9
 returns-3 : tie.Need-returns-3
 returns-3 c = sym (form6-fails _ (λ f. omega arith))
 
--- src/packet.rt:48:1
 returns-4 : tie.Need-returns-4
 returns-4 c = sym (facts-form6 _ (omega arith))
 

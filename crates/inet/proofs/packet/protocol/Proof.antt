@@ -1,35 +1,26 @@
+-- By version. Assumes nothing.
 use mathlib.Core.Path.{sym, _∙_}
 use native.Mathlib.Omega.{arith}
 use Rattle.inet.proofs.HeaderLaws.{protocolOf-4, protocolOf-6, protocolOf-other}
 use borrow.Author.Needs.{needs}
 use Rattle.inet.proofs.packet.protocol.Statement.{statement}
 use Rattle.inet.proofs.packet.protocol.Tie as tie
-use Rattle.inet.proofs.packet.protocol.Reads as reads
-use Rattle.inet.proofs.packet.protocol.Lts as lts
-use Rattle.inet.proofs.packet.byte_at.Reads as byte-at-reads
-use Rattle.inet.proofs.packet.version.Reads as version-reads
 
--- src/packet.rt:80:9
 version-requires : tie.Need-version-requires
 version-requires c κs = search needs
 
--- src/packet.rt:82:9
 byte-at-requires : tie.Need-byte-at-requires
 byte-at-requires c κs = search needs
 
--- src/packet.rt:82:9
 returns : tie.Need-returns
 returns c = c .byte-at .ensures ∙ sym (protocolOf-4 _ (omega arith))
 
--- src/packet.rt:85:9
 byte-at-requires-2 : tie.Need-byte-at-requires-2
 byte-at-requires-2 c κs = search needs
 
--- src/packet.rt:85:9
 returns-2 : tie.Need-returns-2
 returns-2 c = c .byte-at2 .ensures ∙ sym (protocolOf-6 _ (omega arith))
 
--- src/packet.rt:77:1
 returns-3 : tie.Need-returns-3
 returns-3 c = sym (protocolOf-other _ (λ e. omega arith) (λ e. omega arith))
 

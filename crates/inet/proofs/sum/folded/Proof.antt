@@ -1,3 +1,4 @@
+-- The code is the definition, case by case. Assumes nothing.
 use borrow.Author.Needs.{needs}
 use Rattle.inet.specs.Sum.{fold}
 use Rattle.inet.proofs.sum.folded.Statement.{statement}

@@ -1,3 +1,4 @@
+-- By version; a packet of good form that is not IPv4 has 40 bytes. Assumes nothing.
 use mathlib.Core.Path.{sym, _∙_}
 use native.Mathlib.Omega.{arith}
 use Rattle.inet.proofs.FormFacts.{form6-long}
@@ -5,52 +6,37 @@ use Rattle.inet.proofs.TransportLaws.{addressWords-4, addressWords-not-
 use borrow.Author.Needs.{needs}
 use Rattle.inet.proofs.transport.address_words.Statement.{statement}
 use Rattle.inet.proofs.transport.address_words.Tie as tie
-use Rattle.inet.proofs.transport.address_words.Reads as reads
-use Rattle.inet.proofs.transport.address_words.Lts as lts
-use Rattle.inet.proofs.packet.version.Reads as version-reads
-use Rattle.inet.proofs.sum.sum_words.Reads as sum-words-reads
 
--- src/transport.rt:28:8
 version-requires : tie.Need-version-requires
 version-requires c κs = search needs
 
--- src/transport.rt:29:26
 sub-sum-words : tie.Need-sub-sum-words
 sub-sum-words c = search needs
 
--- src/transport.rt:29:26
 part-sum-words-start : tie.Need-part-sum-words-start
 part-sum-words-start c = search needs
 
--- src/transport.rt:29:26
 part-sum-words-end : tie.Need-part-sum-words-end
 part-sum-words-end c = search needs
 
--- src/transport.rt:29:9
 sum-words-requires : tie.Need-sum-words-requires
 sum-words-requires c κs = search needs
 
--- src/transport.rt:29:9
 returns : tie.Need-returns
 returns c = (c .sum-words .ensures .0 ∙ sym (addressWords-4 _ (omega arith)), c .sum-words .ensures .1)
 
--- src/transport.rt:31:15
 sub-sum-words-2 : tie.Need-sub-sum-words-2
 sub-sum-words-2 c = search needs
 
--- src/transport.rt:31:15
 part-sum-words-start-2 : tie.Need-part-sum-words-start-2
 part-sum-words-start-2 c = search needs
 
--- src/transport.rt:31:15
 part-sum-words-end-2 : tie.Need-part-sum-words-end-2
 part-sum-words-end-2 c = omega (arith, form6-long (c .before .before .before .pre) (λ e. omega arith))
 
--- src/transport.rt:31:5
 sum-words-requires-2 : tie.Need-sum-words-requires-2
 sum-words-requires-2 c κs = search needs
 
--- src/transport.rt:24:1
 returns-2 : tie.Need-returns-2
 returns-2 c = (c .sum-words2 .ensures .0 ∙ sym (addressWords-not-4 _ (λ e. omega arith)), c .sum-words2 .ensures .1)
 

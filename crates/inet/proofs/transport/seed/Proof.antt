@@ -1,3 +1,4 @@
+-- The three parts of the pseudo-header, folded. Assumes nothing.
 use mathlib.Core.Path.{ap, _∙_}
 use native.Mathlib.Omega.{arith}
 use Rattle.inet.specs.Sum.{fold}
@@ -5,41 +6,28 @@ use Rattle.inet.specs.Transport.{seed}
 use borrow.Author.Needs.{needs}
 use Rattle.inet.proofs.transport.seed.Statement.{statement}
 use Rattle.inet.proofs.transport.seed.Tie as tie
-use Rattle.inet.proofs.transport.seed.Reads as reads
-use Rattle.inet.proofs.transport.seed.Lts as lts
-use Rattle.inet.proofs.packet.protocol_byte.Reads as protocol-byte-reads
-use Rattle.inet.proofs.sum.folded.Reads as folded-reads
-use Rattle.inet.proofs.transport.address_words.Reads as address-words-reads
 
--- src/transport.rt:18:9
 address-words-requires : tie.Need-address-words-requires
 address-words-requires c κs = search needs
 
--- src/transport.rt:19:9
 protocol-byte-requires : tie.Need-protocol-byte-requires
 protocol-byte-requires c κs = search needs
 
--- src/transport.rt:20:16
 sub-left : tie.Need-sub-left
 sub-left c = search needs
 
--- src/transport.rt:21:24
 cast-folded : tie.Need-cast-folded
 cast-folded c = search needs
 
--- src/transport.rt:21:12
 add-folded : tie.Need-add-folded
 add-folded c = search needs
 
--- src/transport.rt:21:12
 add-folded-2 : tie.Need-add-folded-2
 add-folded-2 c = search needs
 
--- src/transport.rt:21:5
 folded-requires : tie.Need-folded-requires
 folded-requires c κs = search needs
 
--- src/transport.rt:13:1
 returns : tie.Need-returns
 unfolding seed
 returns c = (c .folded .ensures .0 ∙ ap fold (omega arith), search needs)
