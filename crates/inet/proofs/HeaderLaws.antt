@@ -9,7 +9,7 @@ use lib.Dec.{eqb}
 use borrow.Author.Tests.{eq-eqb, ne-eqb}
 use Rattle.answer.specs.Choice.{pick}
 use Rattle.inet.specs.declared.Address.{Address}
-use Rattle.inet.specs.Packet.{versionOf, address4At, address6At, sourceOf, destinationOf, protocolOf, protocolByte, isIcmp, hopsOf}
+use Rattle.inet.specs.Packet.{versionOf, address4At, address6At, sourceOf, destinationOf, protocolOf, protocolByte, isIcmp, hopPlace, hopsOf}
 
 -- a choice by the version, in a packet of version 4, 6, and any other
 module _ {A : Type 0} (v : ℕ) (a b d : A) where
@@ -78,13 +78,21 @@ module _ (p : List ℕ) where
   unfolding isIcmp
   isIcmp-other n m = pick-other (versionOf p) _ _ false n m
 
+  pub hopPlace-4 : versionOf p ≡ 4 → hopPlace p ≡ 8
+  unfolding hopPlace
+  hopPlace-4 e = pick-4 (versionOf p) 8 7 0 e
+
+  pub hopPlace-not-4 : (versionOf p ≡ 4 → ⊥) → hopPlace p ≡ 7
+  unfolding hopPlace
+  hopPlace-not-4 n = pick-not-4 (versionOf p) 8 7 0 n
+
   pub hopsOf-4 : versionOf p ≡ 4 → hopsOf p ≡ getD p 8 0
   unfolding hopsOf
-  hopsOf-4 e = ap (λ (i : ℕ). getD p i 0) (pick-4 (versionOf p) 8 7 0 e)
+  hopsOf-4 e = ap (λ (i : ℕ). getD p i 0) (hopPlace-4 e)
 
   pub hopsOf-not-4 : (versionOf p ≡ 4 → ⊥) → hopsOf p ≡ getD p 7 0
   unfolding hopsOf
-  hopsOf-not-4 n = ap (λ (i : ℕ). getD p i 0) (pick-not-4 (versionOf p) 8 7 0 n)
+  hopsOf-not-4 n = ap (λ (i : ℕ). getD p i 0) (hopPlace-not-4 n)
 
 -- past the end a byte reads as 0
 pub getD-past : (s : List ℕ) (i : ℕ) → length s ≤ i → 0 ≡ getD s i 0

@@ -83,9 +83,10 @@ unfoldable pub isIcmp : List ℕ → Bool
 isIcmp p = pick (eqb (versionOf p) 4) (eqb (protocolOf p) 1) (pick (eqb (versionOf p) 6) (eqb (protocolOf p) 58) false)
 
 -- the place of the hop count: TTL of IPv4, hop limit of IPv6
-abbrev pub hopPlace : List ℕ → ℕ
+unfoldable pub hopPlace : List ℕ → ℕ
 hopPlace p = pick (eqb (versionOf p) 4) 8 7
 
+-- the hop count
 unfoldable pub hopsOf : List ℕ → ℕ
 hopsOf p = getD p (hopPlace p) 0
 

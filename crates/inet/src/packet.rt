@@ -3,7 +3,7 @@ ghost use mathlib.Core.Path.{_≡_};
 ghost use Prim.Native.Nat.{_≤_, _<_, _+_, _*_};
 ghost use lib.ListN.{length, getD};
 ghost use Rattle.inet.specs.Packet.{versionOf, form4, form6, form, Form, address4At, address6At, sourceOf, destinationOf};
-ghost use Rattle.inet.specs.Packet.{protocolOf, protocolByte, isIcmp, hopsOf};
+ghost use Rattle.inet.specs.Packet.{protocolOf, protocolByte, isIcmp, hopPlace, hopsOf};
 use super::Address;
 use super::sum::folded;
 use super::sum::sum_words;
@@ -153,14 +153,18 @@ pub fn protocol_byte(packet: &[u8]) -> u8
     0
 }
 
+// The place of the hop count.
+pub fn hop_place(packet: &[u8]) -> usize
+    ensures { λ r. ⌜ r ≡ hopPlace (now (packet .entry)) ⌝ }
+{
+    if version(packet) == 4 { 8 } else { 7 }
+}
+
 pub fn hops(packet: &[u8]) -> u8
     ensures { λ r. ⌜ r ≡ hopsOf (now (packet .entry)) ⌝ }
 {
-    if version(packet) == 4 {
-        byte_at(packet, 8)
-    } else {
-        byte_at(packet, 7)
-    }
+    let at = hop_place(packet);
+    byte_at(packet, at)
 }
 
 pub fn is_icmp(packet: &[u8]) -> bool
