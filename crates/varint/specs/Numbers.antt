@@ -1,5 +1,5 @@
 -- QUIC numbers (RFC 9000, section 16) on byte lists.
-use Prim.Native.Nat.{ℕ, _+_, _-_, _*_, _/_, _%_, _^_}
+use Prim.Native.Nat.{ℕ, _+_, _-_, _*_, _/_, _%_, _^_, _<_}
 use mathlib.Core.Path.{_≡_}
 use mathlib.Core.Bool.{Bool}
 use mathlib.Core.List.{List, [], _∷_}
@@ -30,6 +30,16 @@ formSize s = 2 ^ (getD s 0 0 / 64)
 unfoldable pub readNumber : List ℕ → NumberRead
 readNumber s =
     pick (leb (formSize s) (length s)) (Whole (bigFrom (getD s 0 0 % 64) (take (formSize s - 1) (drop 1 s))) (formSize s)) Cut
+
+-- the value of a reading, 0 where there is none
+abbrev pub valueIn : NumberRead → ℕ
+valueIn (Whole v n) = v
+valueIn Cut = 0
+
+-- what reading answers; of bytes a value below the limit
+pub record Read (s : List ℕ) (r : NumberRead) : Type 0 where
+  pub reading : r ≡ readNumber s
+  pub below : valueIn r < limit
 
 -- the number that a reading by itself gives back
 abbrev pub readingNumber : NumberRead → ℕ

@@ -5,7 +5,7 @@ use answer::Answer;
 use answer::Refusal;
 ghost use mathlib.Core.Path.{_≡_};
 ghost use Prim.Native.Nat.{_≤_, _^_, _/_};
-ghost use Rattle.varint.specs.Numbers.{readNumber, readingNumber, encodedSize, shortest, Written};
+ghost use Rattle.varint.specs.Numbers.{Read, readingNumber, encodedSize, shortest, Written};
 
 // 2^62: the first value that no form holds.
 pub const LIMIT: u64 = 4611686018427387904;
@@ -33,7 +33,7 @@ impl NumberRead {
 
 // The number at the front of the bytes.
 pub fn read(bytes: &[u8]) -> NumberRead
-    ensures { λ r. ⌜ r ≡ readNumber (now (bytes .entry)) ⌝ }
+    ensures { λ r. ⌜ Read (now (bytes .entry)) r ⌝ }
 {
     if bytes.len() == 0 {
         return NumberRead::Cut;
