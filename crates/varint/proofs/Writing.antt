@@ -8,15 +8,16 @@ use Rattle.answer.specs.declared.Answer.{Answer}
 use Rattle.answer.specs.declared.Answer.the-variants.{Done, Refused}
 use Rattle.answer.specs.declared.Refusal.the-variants.{BadAddress, NoRoom}
 use Rattle.answer.specs.declared.Verdict.the-variants.{Go, Stop}
-use Rattle.varint.specs.Numbers.{limit, room, encode, encodedSize, writeTests, writeVerdict, Written}
+use Rattle.answer.specs.Verdict.{Writes}
+use Rattle.varint.specs.Numbers.{limit, room, encode, encodedSize, writeTests, writeVerdict}
 
 module _ (v : ℕ) (out : List ℕ) where
-  pub no-room : length out < room → Written v out (Refused NoRoom) out
+  pub no-room : length out < room → Writes (writeVerdict v (length out)) (encode v) out (Refused NoRoom) out
   unfolding writeVerdict writeTests
   no-room h = record { answer = simp (lt-ltb _ _ h); output = simp (lt-ltb _ _ h) }
 
   module _ (h : room ≤ length out) where
-    pub too-large : limit ≤ v → Written v out (Refused BadAddress) out
+    pub too-large : limit ≤ v → Writes (writeVerdict v (length out)) (encode v) out (Refused BadAddress) out
     unfolding writeVerdict writeTests
     too-large g = record { answer = simp (le-ltb _ _ h, le-leb _ _ g); output = simp (le-ltb _ _ h, le-leb _ _ g) }
 
@@ -26,11 +27,11 @@ module _ (v : ℕ) (out : List ℕ) where
       goes = simp (le-ltb _ _ h, lt-leb _ _ g)
 
       -- e, the shortest form, stands at the front
-      pub done : {e after : List ℕ} → encode v ≡ e → after ≡ e ++ drop (length e) out → Written v out (Done (length e)) after
-      unfolding encodedSize
+      pub done : {e after : List ℕ} → encode v ≡ e → after ≡ e ++ drop (length e) out → Writes (writeVerdict v (length out)) (encode v) out (Done (length e)) after
       done f a = record { answer = rw (goes, f); output = rw (goes, f) a }
 
       -- what a caller learns that has room and a value below the limit
-      pub wrote : {after : List ℕ} {r : Answer} → Written v out r after
+      pub wrote : {after : List ℕ} {r : Answer} → Writes (writeVerdict v (length out)) (encode v) out r after
           → (r ≡ Done (encodedSize v)) × (after ≡ encode v ++ drop (length (encode v)) out)
+      unfolding encodedSize
       wrote w = (rw goes at (w .answer), rw goes at (w .output))

@@ -5,12 +5,11 @@ use mathlib.Core.Bool.{Bool}
 use mathlib.Core.List.{List, [], _∷_}
 use lib.ListN.{length, getD, take, drop}
 use lib.Dec.{ltb, leb, eqb}
-use Rattle.answer.specs.declared.Answer.{Answer}
 use Rattle.answer.specs.declared.Refusal.the-variants.{Incomplete, BadAddress, NoRoom}
 use Rattle.answer.specs.declared.Verdict.{Verdict}
 use Rattle.answer.specs.Choice.{pick}
 use Rattle.answer.specs.Number.{numberOf}
-use Rattle.answer.specs.Verdict.{Test, _⇒_, firstOf, answerOf, outputOf}
+use Rattle.answer.specs.Verdict.{Test, _⇒_, firstOf}
 use Rattle.octets.specs.Big.{bigFrom, digits}
 use Rattle.varint.specs.declared.NumberRead.{NumberRead}
 use Rattle.varint.specs.declared.NumberRead.the-variants.{Whole, Cut}
@@ -65,8 +64,3 @@ writeTests v n = (ltb n room ⇒ NoRoom) ∷ (leb limit v ⇒ BadAddress) ∷ []
 
 unfoldable pub writeVerdict : ℕ → ℕ → Verdict
 writeVerdict v n = firstOf (writeTests v n)
-
--- what writing answers, and what it leaves in the output
-pub record Written (v : ℕ) (before : List ℕ) (r : Answer) (after : List ℕ) : Type 0 where
-  pub answer : r ≡ answerOf (writeVerdict v (length before)) (encodedSize v)
-  pub output : after ≡ outputOf (writeVerdict v (length before)) (encode v) before
