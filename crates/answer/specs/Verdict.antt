@@ -1,5 +1,6 @@
 -- A verdict is the first of a table of tests that holds, or `Go`. An entry point's answer and its output are made of its verdict.
 use Prim.Native.Nat.{ℕ}
+use mathlib.Core.Path.{_≡_}
 use mathlib.Core.Bool.{Bool, true, false}
 use mathlib.Core.List.{List, [], _∷_, _++_}
 use lib.ListN.{length, drop}
@@ -37,3 +38,14 @@ answerOf (Stop r) n = Refused r
 abbrev pub outputOf : Verdict → List ℕ → List ℕ → List ℕ
 outputOf Go message out = message ++ drop (length message) out
 outputOf (Stop r) message out = out
+
+-- the first verdict that is no `Go`
+infixl 15 _then_
+abbrev pub _then_ : Verdict → Verdict → Verdict
+Go then v = v
+(Stop r) then v = Stop r
+
+-- what an entry point that writes a message answers, and what it leaves in the output: a refusal alters no byte, success the first bytes only
+pub record Writes (v : Verdict) (message before : List ℕ) (r : Answer) (after : List ℕ) : Type 0 where
+  pub answer : r ≡ answerOf v (length message)
+  pub output : after ≡ outputOf v message before

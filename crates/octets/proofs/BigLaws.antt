@@ -1,14 +1,14 @@
 -- Laws of `bigFrom`: one more byte, the end, the bounds, and two lists one after the other. Assumes nothing.
-use Prim.Native.Nat.{ℕ, suc, _+_, _-_, _*_, _^_, _<_, _≤_}
+use Prim.Native.Nat.{ℕ, zero, suc, _+_, _-_, _*_, _/_, _%_, _^_, _<_, _≤_}
 use mathlib.Core.Path.{_≡_, refl, sym, ap, _∙_}
-use mathlib.Core.List.{List, [], _∷_, _++_}
-use native.Mathlib.Nat.{pow-suc, pow-le-pow-right, lt-of-lt-of-le, one-le-pow, mul-assoc, mul-comm, mul-one, add-mul, add-zero, add-assoc, one-mul}
+use mathlib.Core.List.{List, [], _∷_, _++_, append-nil}
+use native.Mathlib.Nat.{pow-suc, pow-le-pow-right, lt-of-lt-of-le, one-le-pow, mul-assoc, mul-comm, mul-one, add-mul, add-zero, add-assoc, one-mul, mul-le-mul-right}
 use native.Mathlib.Numerals.{add-one}
 use native.Mathlib.Omega.{arith}
 use lib.Dec.{lit<}
-use lib.ListN.{length, getD, take, drop, drop-of-length-le, length-take, length-drop}
-use lib.Seq.{drop-cons}
-use Rattle.octets.specs.Big.{bigFrom, bigAt}
+use lib.ListN.{length, getD, take, drop, drop-of-length-le, length-take, length-drop, length-append}
+use lib.Seq.{drop-cons, getD-drop, append-snoc}
+use Rattle.octets.specs.Big.{bigFrom, bigAt, digits, Bytes}
 
 pub step : (acc i : ℕ) (s : List ℕ) (v : ℕ) → i < length s → bigFrom acc (drop i s) ≡ v
     → bigFrom (acc * 256 + getD s i 0) (drop (i + 1) s) ≡ v
@@ -64,3 +64,37 @@ part at n m r s e h f =
     let l : length (take n (drop at s)) ≡ n = simp (length-take, length-drop) (omega arith) in
     let g : r < 1 * 256 ^ n = rw (e, l) at (f .1) in
     (rw e at (f .0), rw one-mul at g)
+
+-- the value of bytes is below its bound
+pub bound : (acc : ℕ) (s : List ℕ) → Bytes s → bigFrom acc s < (acc + 1) * 256 ^ length s
+bound acc [] h = rw mul-one (omega arith)
+bound acc (b ∷ s) h =
+    let l : b < 256 = h 0 in
+    let e : (acc * 256 + 256) * 256 ^ length s ≡ (acc + 1) * 256 ^ suc (length s) =
+    rw pow-suc (ap (λ (n : ℕ). n * 256 ^ length s) (omega arith) ∙ mul-assoc (acc + 1) 256 (256 ^ length s) ∙ ap (λ (n : ℕ). (acc + 1) * n) (mul-comm 256 (256 ^ length s)))
+    in
+    let m : (acc * 256 + b + 1) * 256 ^ length s ≤ (acc * 256 + 256) * 256 ^ length s = mul-le-mul-right (256 ^ length s) (omega arith) in
+    rw (← e) (lt-of-lt-of-le (bound (acc * 256 + b) s (λ i. h (suc i))) m)
+
+-- bytes are the digits of their value, after the digits in front
+pub digits-big : (k acc : ℕ) (s : List ℕ) → Bytes s → digits (k + length s) (bigFrom acc s) ≡ digits k acc ++ s
+digits-big k acc [] h = rw (add-zero, append-nil)
+digits-big k acc (b ∷ s) h =
+    let l : b < 256 = h 0 in
+    let q : (acc * 256 + b) / 256 ≡ acc = omega arith in
+    let r : (acc * 256 + b) % 256 ≡ b = omega arith in
+    let e : k + suc (length s) ≡ suc k + length s = omega arith in
+    rw e (digits-big (suc k) (acc * 256 + b) s (λ i. h (suc i)) ∙ rw (q, r, append-snoc))
+
+pub length-digits : (n v : ℕ) → length (digits n v) ≡ n
+length-digits zero v = refl
+length-digits (suc n) v = rw (length-append, length-digits n (v / 256)) (omega arith)
+
+pub bytes-take : (n : ℕ) (s : List ℕ) → Bytes s → Bytes (take n s)
+bytes-take zero s h i = lit< tt
+bytes-take (suc n) [] h i = lit< tt
+bytes-take (suc n) (b ∷ s) h zero = h 0
+bytes-take (suc n) (b ∷ s) h (suc i) = bytes-take n s (λ j. h (suc j)) i
+
+pub bytes-drop : (n : ℕ) (s : List ℕ) → Bytes s → Bytes (drop n s)
+bytes-drop n s h i = rw getD-drop (h (n + i))

@@ -1,7 +1,7 @@
 -- Big-endian numbers on byte lists.
-use Prim.Native.Nat.{ℕ, zero, suc, _+_, _*_, _/_, _%_}
+use Prim.Native.Nat.{ℕ, zero, suc, _+_, _*_, _/_, _%_, _<_}
 use mathlib.Core.List.{List, [], _∷_, _++_}
-use lib.ListN.{take, drop}
+use lib.ListN.{take, drop, getD}
 
 -- the big-endian value of a byte list, after the digits that `acc` stands for
 abbrev pub bigFrom : ℕ → List ℕ → ℕ
@@ -19,3 +19,7 @@ bigAt i n s = big (take n (drop i s))
 abbrev pub digits : ℕ → ℕ → List ℕ
 digits zero v = []
 digits (suc n) v = digits n (v / 256) ++ (v % 256 ∷ [])
+
+-- every element is a byte
+abbrev pub Bytes : List ℕ → Type 0
+Bytes s = (i : ℕ) → getD s i 0 < 256

@@ -1,16 +1,15 @@
 -- QUIC numbers (RFC 9000, section 16) on byte lists.
-use Prim.Native.Nat.{ℕ, _+_, _-_, _*_, _/_, _%_, _^_}
+use Prim.Native.Nat.{ℕ, _+_, _-_, _*_, _/_, _%_, _^_, _<_}
 use mathlib.Core.Path.{_≡_}
 use mathlib.Core.Bool.{Bool}
 use mathlib.Core.List.{List, [], _∷_}
 use lib.ListN.{length, getD, take, drop}
 use lib.Dec.{ltb, leb, eqb}
-use Rattle.answer.specs.declared.Answer.{Answer}
 use Rattle.answer.specs.declared.Refusal.the-variants.{Incomplete, BadAddress, NoRoom}
 use Rattle.answer.specs.declared.Verdict.{Verdict}
 use Rattle.answer.specs.Choice.{pick}
 use Rattle.answer.specs.Number.{numberOf}
-use Rattle.answer.specs.Verdict.{Test, _⇒_, firstOf, answerOf, outputOf}
+use Rattle.answer.specs.Verdict.{Test, _⇒_, firstOf}
 use Rattle.octets.specs.Big.{bigFrom, digits}
 use Rattle.varint.specs.declared.NumberRead.{NumberRead}
 use Rattle.varint.specs.declared.NumberRead.the-variants.{Whole, Cut}
@@ -30,6 +29,16 @@ formSize s = 2 ^ (getD s 0 0 / 64)
 unfoldable pub readNumber : List ℕ → NumberRead
 readNumber s =
     pick (leb (formSize s) (length s)) (Whole (bigFrom (getD s 0 0 % 64) (take (formSize s - 1) (drop 1 s))) (formSize s)) Cut
+
+-- the value of a reading, 0 where there is none
+abbrev pub valueIn : NumberRead → ℕ
+valueIn (Whole v n) = v
+valueIn Cut = 0
+
+-- what reading answers; of bytes a value below the limit
+pub record Read (s : List ℕ) (r : NumberRead) : Type 0 where
+  pub reading : r ≡ readNumber s
+  pub below : valueIn r < limit
 
 -- the number that a reading by itself gives back
 abbrev pub readingNumber : NumberRead → ℕ
@@ -55,8 +64,3 @@ writeTests v n = (ltb n room ⇒ NoRoom) ∷ (leb limit v ⇒ BadAddress) ∷ []
 
 unfoldable pub writeVerdict : ℕ → ℕ → Verdict
 writeVerdict v n = firstOf (writeTests v n)
-
--- what writing answers, and what it leaves in the output
-pub record Written (v : ℕ) (before : List ℕ) (r : Answer) (after : List ℕ) : Type 0 where
-  pub answer : r ≡ answerOf (writeVerdict v (length before)) (encodedSize v)
-  pub output : after ≡ outputOf (writeVerdict v (length before)) (encode v) before

@@ -5,7 +5,9 @@ use answer::Answer;
 use answer::Refusal;
 ghost use mathlib.Core.Path.{_≡_};
 ghost use Prim.Native.Nat.{_≤_, _^_, _/_};
-ghost use Rattle.varint.specs.Numbers.{readNumber, readingNumber, encodedSize, shortest, Written};
+ghost use lib.ListN.{length};
+ghost use Rattle.answer.specs.Verdict.{Writes};
+ghost use Rattle.varint.specs.Numbers.{Read, readingNumber, encode, encodedSize, shortest, writeVerdict};
 
 // 2^62: the first value that no form holds.
 pub const LIMIT: u64 = 4611686018427387904;
@@ -33,7 +35,7 @@ impl NumberRead {
 
 // The number at the front of the bytes.
 pub fn read(bytes: &[u8]) -> NumberRead
-    ensures { λ r. ⌜ r ≡ readNumber (now (bytes .entry)) ⌝ }
+    ensures { λ r. ⌜ Read (now (bytes .entry)) r ⌝ }
 {
     if bytes.len() == 0 {
         return NumberRead::Cut;
@@ -67,7 +69,7 @@ fn size_of_form(first: u8) -> usize
 
 // Writes the value in its shortest form to the front of out.
 pub fn write(value: u64, out: &mut [u8]) -> Answer
-    ensures { λ r. ⌜ Written value (now (out .entry)) r (now (out .exit)) ⌝ }
+    ensures { λ r. ⌜ Writes (writeVerdict value (length (now (out .entry)))) (encode value) (now (out .entry)) r (now (out .exit)) ⌝ }
 {
     if out.len() < ROOM {
         return Answer::Refused(Refusal::NoRoom);

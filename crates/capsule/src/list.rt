@@ -1,0 +1,159 @@
+// The lists of a capsule's value: element by element up to its end, or the first fault.
+use crate::element::EntryRead;
+use crate::element::RangeRead;
+use answer::Refusal;
+use answer::Verdict;
+use lists::ADDRESS_WORDS;
+use lists::AddressList;
+use lists::MAX_ADDRESSES;
+use lists::MAX_RANGES;
+use lists::ROUTE_WORDS;
+use lists::RouteList;
+ghost use mathlib.Core.Path.{_≡_};
+ghost use mathlib.Core.Bool.{false, _||_};
+ghost use Prim.Native.Nat.{_≤_};
+ghost use lib.Dec.{eqb};
+ghost use lib.ListN.{length, take};
+ghost use Rattle.lists.specs.Scan.{anyOf};
+ghost use Rattle.lists.specs.Words.{maxAddresses, maxRanges};
+ghost use Rattle.capsule.specs.Elements.{fault, elementsIn};
+ghost use Rattle.capsule.specs.Entries.{entryFormat, rangeFormat};
+ghost use Rattle.capsule.specs.Capsules.{maxValue};
+ghost use Rattle.capsule.specs.Results.{entriesResult, rangesResult};
+
+// The most entries that a value within the limit can hold: the shortest takes 7 bytes.
+const MAX_ENTRIES: usize = 585;
+
+pub struct EntriesRead {
+    pub verdict: Verdict,
+    pub list: AddressList,
+}
+
+pub struct RangesRead {
+    pub verdict: Verdict,
+    pub list: RouteList,
+}
+
+// The entries of a request, or else of an assignment.
+pub(crate) fn read_entries(value: &[u8], request: bool) -> EntriesRead
+    requires { ⌜ length (now value) ≤ maxValue ⌝ }
+    ensures { λ r. ⌜ r ≡ entriesResult (elementsIn (entryFormat request) request maxAddresses (now (value .entry))) ⌝ }
+{
+    let mut words = [0u64; ADDRESS_WORDS];
+    let mut ids = [0u64; MAX_ENTRIES];
+    let mut count: usize = 0;
+    let mut at: usize = 0;
+    while at < value.len() {
+        let r = crate::element::read_entry(&value[at..]);
+        match r {
+            EntryRead::Good { entry, size } => {
+                let id = entry.request_id;
+                if request {
+                    if zero_or_seen(&ids, count, id.0) {
+                        return no_entries(Refusal::BadRequestId);
+                    }
+                }
+                ids[count] = id.0;
+                if count < MAX_ADDRESSES {
+                    lists::put_entry(&mut words, count, entry);
+                }
+                count += 1;
+                at += size;
+            }
+            EntryRead::Bad => {
+                return no_entries(Refusal::BadAddress);
+            }
+        }
+    }
+    if count == 0 {
+        if request {
+            return no_entries(Refusal::BadRequestId);
+        }
+    }
+    if MAX_ADDRESSES < count {
+        return no_entries(Refusal::TooMany);
+    }
+    words[0] = count as u64;
+    let list = AddressList { words };
+    EntriesRead {
+        verdict: Verdict::Go,
+        list,
+    }
+}
+
+// Whether an ID is zero, or one of the first n.
+fn zero_or_seen(ids: &[u64; MAX_ENTRIES], n: usize, id: u64) -> bool
+    requires { ⌜ n ≤ 585 ⌝ }
+    ensures { λ r. ⌜ r ≡ (eqb id 0 || anyOf (λ d. eqb d id) (take n (now (ids .entry)))) ⌝ }
+{
+    if id == 0 {
+        return true;
+    }
+    let mut i: usize = 0;
+    while i < n {
+        if ids[i] == id {
+            return true;
+        }
+        i += 1;
+    }
+    false
+}
+
+fn no_entries(why: Refusal) -> EntriesRead
+    ensures { λ r. ⌜ r ≡ entriesResult (fault why) ⌝ }
+{
+    let list = lists::no_addresses();
+    EntriesRead {
+        verdict: Verdict::Stop(why),
+        list,
+    }
+}
+
+// The ranges of an advertisement.
+pub(crate) fn read_ranges(value: &[u8]) -> RangesRead
+    requires { ⌜ length (now value) ≤ maxValue ⌝ }
+    ensures { λ r. ⌜ r ≡ rangesResult (elementsIn rangeFormat false maxRanges (now (value .entry))) ⌝ }
+{
+    let mut words = [0u64; ROUTE_WORDS];
+    let mut last = lists::before_all();
+    let mut count: usize = 0;
+    let mut at: usize = 0;
+    while at < value.len() {
+        let r = crate::element::read_range(&value[at..]);
+        match r {
+            RangeRead::Good { range, size } => {
+                if !lists::in_order(last, range) {
+                    return no_ranges(Refusal::RangesOutOfOrder);
+                }
+                if count < MAX_RANGES {
+                    lists::put_range(&mut words, count, range);
+                }
+                last = range;
+                count += 1;
+                at += size;
+            }
+            RangeRead::Bad => {
+                return no_ranges(Refusal::BadRange);
+            }
+        }
+    }
+    if MAX_RANGES < count {
+        return no_ranges(Refusal::TooMany);
+    }
+    words[0] = count as u64;
+    let list = RouteList { words };
+    RangesRead {
+        verdict: Verdict::Go,
+        list,
+    }
+}
+
+fn no_ranges(why: Refusal) -> RangesRead
+    ensures { λ r. ⌜ r ≡ rangesResult (fault why) ⌝ }
+{
+    let list = lists::no_routes();
+    RangesRead {
+        verdict: Verdict::Stop(why),
+        list,
+    }
+}

@@ -1,0 +1,256 @@
+// Address entries and route ranges (RFC 9484, sections 4.7.1 to 4.7.3), the rules of each, and lists of them.
+// A list is one flat array of words: word 0 is the count, and each element has a fixed number of words after it. What stands past the
+// count is 0 where the box made the list, and is ignored where one is handed in. Nothing here refuses: the tests answer yes or no.
+ghost use mathlib.Core.Path.{_≡_};
+ghost use Prim.Native.Nat.{_<_};
+ghost use Rattle.lists.specs.Rules.{soundEntry, soundRange, inOrder, beforeAll};
+ghost use Rattle.lists.specs.Words.{maxAddresses, maxRanges, entryAt, rangeAt, putEntry, putRange, soundAddresses, soundRoutes, noAddresses, noRoutes};
+
+// The most entries of an address list, and the most ranges of a route list.
+pub const MAX_ADDRESSES: usize = 16;
+
+pub const MAX_RANGES: usize = 64;
+
+// The words of a list: the count, and 4 for an entry or 5 for a range.
+pub const ADDRESS_WORDS: usize = 65;
+
+pub const ROUTE_WORDS: usize = 321;
+
+// The first value that is no IPv4 address.
+const IPV4_END: u64 = 4294967296;
+
+// A Request ID (RFC 9484, section 4.7): no Context ID can stand in its place.
+#[repr(C)]
+pub struct RequestId(pub u64);
+
+// An address with its prefix length. IPv4 stands in `lo` with `hi` 0.
+#[repr(C)]
+pub struct AddressEntry {
+    pub request_id: RequestId,
+    pub version: u8,
+    pub prefix: u8,
+    pub hi: u64,
+    pub lo: u64,
+}
+
+// The addresses from start to end, both included, for one protocol; 0 stands for all.
+#[repr(C)]
+pub struct RouteRange {
+    pub version: u8,
+    pub protocol: u8,
+    pub start_hi: u64,
+    pub start_lo: u64,
+    pub end_hi: u64,
+    pub end_lo: u64,
+}
+
+// Entry i has the words 4 i + 1 to 4 i + 4: Request ID, version + 256 * prefix, hi, lo.
+#[repr(C)]
+pub struct AddressList {
+    pub words: [u64; ADDRESS_WORDS],
+}
+
+// Range i has the words 5 i + 1 to 5 i + 5: version + 256 * protocol, start, end.
+#[repr(C)]
+pub struct RouteList {
+    pub words: [u64; ROUTE_WORDS],
+}
+
+// The empty lists.
+pub fn no_addresses() -> AddressList
+    ensures { λ r. ⌜ r ≡ noAddresses ⌝ }
+{
+    let words = [0u64; ADDRESS_WORDS];
+    AddressList { words }
+}
+
+pub fn no_routes() -> RouteList
+    ensures { λ r. ⌜ r ≡ noRoutes ⌝ }
+{
+    let words = [0u64; ROUTE_WORDS];
+    RouteList { words }
+}
+
+// Whether an entry keeps its rule.
+pub fn entry_sound(e: AddressEntry) -> bool
+    ensures { λ r. ⌜ r ≡ soundEntry e ⌝ }
+{
+    let id = e.request_id;
+    if varint::LIMIT <= id.0 {
+        return false;
+    }
+    if e.version == 4 {
+        if !octets::below(e.hi, e.lo, 0, IPV4_END) {
+            return false;
+        }
+        if 32 < e.prefix {
+            return false;
+        }
+        return octets::low_zero_wide((32 - e.prefix) as u64, e.hi, e.lo);
+    }
+    if e.version != 6 {
+        return false;
+    }
+    if 128 < e.prefix {
+        return false;
+    }
+    octets::low_zero_wide((128 - e.prefix) as u64, e.hi, e.lo)
+}
+
+// Whether a range keeps its rule.
+pub fn range_sound(r: RouteRange) -> bool
+    ensures { λ b. ⌜ b ≡ soundRange r ⌝ }
+{
+    if !octets::at_most(r.start_hi, r.start_lo, r.end_hi, r.end_lo) {
+        return false;
+    }
+    if r.version == 6 {
+        return true;
+    }
+    if r.version != 4 {
+        return false;
+    }
+    octets::below(r.end_hi, r.end_lo, 0, IPV4_END)
+}
+
+// Whether range b may follow range a.
+pub fn in_order(a: RouteRange, b: RouteRange) -> bool
+    ensures { λ r. ⌜ r ≡ inOrder a b ⌝ }
+{
+    if a.version != b.version {
+        return a.version < b.version;
+    }
+    if a.protocol != b.protocol {
+        return a.protocol < b.protocol;
+    }
+    octets::below(a.end_hi, a.end_lo, b.start_hi, b.start_lo)
+}
+
+// Entry i of the words.
+pub fn entry_at(w: &[u64; ADDRESS_WORDS], i: usize) -> AddressEntry
+    requires { ⌜ i < maxAddresses ⌝ }
+    ensures { λ r. ⌜ r ≡ entryAt (now (w .entry)) i ⌝ }
+{
+    let b = i * 4;
+    let request_id = RequestId(w[b + 1]);
+    let tag = w[b + 2];
+    let version = (tag % 256) as u8;
+    let prefix = (tag / 256 % 256) as u8;
+    let hi = w[b + 3];
+    let lo = w[b + 4];
+    AddressEntry {
+        request_id,
+        version,
+        prefix,
+        hi,
+        lo,
+    }
+}
+
+// Range i of the words.
+pub fn range_at(w: &[u64; ROUTE_WORDS], i: usize) -> RouteRange
+    requires { ⌜ i < maxRanges ⌝ }
+    ensures { λ r. ⌜ r ≡ rangeAt (now (w .entry)) i ⌝ }
+{
+    let b = i * 5;
+    let tag = w[b + 1];
+    let version = (tag % 256) as u8;
+    let protocol = (tag / 256 % 256) as u8;
+    let start_hi = w[b + 2];
+    let start_lo = w[b + 3];
+    let end_hi = w[b + 4];
+    let end_lo = w[b + 5];
+    RouteRange {
+        version,
+        protocol,
+        start_hi,
+        start_lo,
+        end_hi,
+        end_lo,
+    }
+}
+
+// Stores entry i.
+pub fn put_entry(w: &mut [u64; ADDRESS_WORDS], i: usize, e: AddressEntry)
+    requires { ⌜ i < maxAddresses ⌝ }
+    ensures { λ _. ⌜ now (w .exit) ≡ putEntry (now (w .entry)) i e ⌝ }
+{
+    let b = i * 4;
+    let id = e.request_id;
+    w[b + 1] = id.0;
+    w[b + 2] = (e.version as u64) + 256 * (e.prefix as u64);
+    w[b + 3] = e.hi;
+    w[b + 4] = e.lo;
+}
+
+// Stores range i.
+pub fn put_range(w: &mut [u64; ROUTE_WORDS], i: usize, r: RouteRange)
+    requires { ⌜ i < maxRanges ⌝ }
+    ensures { λ _. ⌜ now (w .exit) ≡ putRange (now (w .entry)) i r ⌝ }
+{
+    let b = i * 5;
+    w[b + 1] = (r.version as u64) + 256 * (r.protocol as u64);
+    w[b + 2] = r.start_hi;
+    w[b + 3] = r.start_lo;
+    w[b + 4] = r.end_hi;
+    w[b + 5] = r.end_lo;
+}
+
+// The range before every range.
+pub fn before_all() -> RouteRange
+    ensures { λ r. ⌜ r ≡ beforeAll ⌝ }
+{
+    RouteRange {
+        version: 0,
+        protocol: 0,
+        start_hi: 0,
+        start_lo: 0,
+        end_hi: 0,
+        end_lo: 0,
+    }
+}
+
+// Whether the words are a sound list of addresses: the count within the limit, and every entry sound.
+pub fn addresses_sound(w: &[u64; ADDRESS_WORDS]) -> bool
+    ensures { λ r. ⌜ r ≡ soundAddresses (now (w .entry)) ⌝ }
+{
+    let count = w[0];
+    if (MAX_ADDRESSES as u64) < count {
+        return false;
+    }
+    let n = count as usize;
+    let mut i: usize = 0;
+    while i < n {
+        let e = entry_at(w, i);
+        if !entry_sound(e) {
+            return false;
+        }
+        i += 1;
+    }
+    true
+}
+
+// Whether the words are a sound list of routes: the count within the limit, every range sound, neighbours in order.
+pub fn routes_sound(w: &[u64; ROUTE_WORDS]) -> bool
+    ensures { λ r. ⌜ r ≡ soundRoutes (now (w .entry)) ⌝ }
+{
+    let count = w[0];
+    if (MAX_RANGES as u64) < count {
+        return false;
+    }
+    let n = count as usize;
+    let mut last = before_all();
+    let mut i: usize = 0;
+    while i < n {
+        let r = range_at(w, i);
+        if !range_sound(r) {
+            return false;
+        }
+        if !in_order(last, r) {
+            return false;
+        }
+        last = r;
+        i += 1;
+    }
+    true
+}

@@ -1,0 +1,60 @@
+// The plan file with its header templates: read, tested and written.
+// A template says which bytes of a packet are always the same, and which checksum the far end completes. The file is read left to right;
+// refused are a file that is cut or too long (22), a wrong mark (20) or version (21), a number that is not in its shortest form (24), and
+// what breaks a rule (23, and 25 for Context IDs and the count of templates). Writing refuses too small an output first (16).
+use answer::Answer;
+use answer::Refusal;
+use answer::Verdict;
+ghost use mathlib.Core.Path.{_≡_};
+ghost use lib.ListN.{length};
+ghost use Rattle.answer.specs.Verdict.{Writes};
+ghost use Rattle.plan.specs.Shapes.{shapesOf};
+ghost use Rattle.plan.specs.Rules.{planFault, soundPlan, writeVerdict};
+ghost use Rattle.plan.specs.File.{planBytes};
+ghost use Rattle.plan.specs.Results.{readPlan};
+
+pub const MAX_TEMPLATES: usize = 8;
+
+pub const MAX_SEGMENTS: usize = 8;
+
+// Static bytes lie within the first 128 of a packet.
+pub const STATIC_LIMIT: usize = 128;
+
+// The least output that a plan is written to.
+pub const PLAN_ROOM: usize = 1400;
+
+// A Context ID (RFC 9298, section 4): no Request ID can stand in its place.
+#[repr(C)]
+pub struct ContextId(pub u64);
+
+#[repr(C)]
+pub struct Segment {
+    pub offset: usize,
+    pub length: usize,
+}
+
+// `bytes` is an image of a packet's first bytes: the static byte of position p stands at bytes[p].
+// With a checksum its two bytes stand at `field`, and its sum starts at `start`.
+#[repr(C)]
+pub struct Template {
+    pub id: ContextId,
+    pub count: usize,
+    pub segments: [Segment; MAX_SEGMENTS],
+    pub bytes: [u8; STATIC_LIMIT],
+    pub checksum: bool,
+    pub field: usize,
+    pub start: usize,
+}
+
+#[repr(C)]
+pub struct Plan {
+    pub count: usize,
+    pub templates: [Template; MAX_TEMPLATES],
+}
+
+// A refusal comes with a plan of no templates.
+#[repr(C)]
+pub struct PlanRead {
+    pub verdict: Verdict,
+    pub plan: Plan,
+}

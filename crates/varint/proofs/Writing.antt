@@ -1,0 +1,37 @@
+-- What writing a number answers and leaves, by its cases; and what a caller that has tested both refusals learns. Assumes nothing.
+use Prim.Native.Nat.{ℕ, _+_, _*_, _^_, _<_, _≤_}
+use mathlib.Core.Path.{_≡_, refl, sym, ap, _∙_}
+use mathlib.Core.List.{List, _++_}
+use borrow.Author.Tests.{lt-ltb, le-ltb, le-leb, lt-leb}
+use lib.ListN.{length, drop}
+use Rattle.answer.specs.declared.Answer.{Answer}
+use Rattle.answer.specs.declared.Answer.the-variants.{Done, Refused}
+use Rattle.answer.specs.declared.Refusal.the-variants.{BadAddress, NoRoom}
+use Rattle.answer.specs.declared.Verdict.the-variants.{Go, Stop}
+use Rattle.answer.specs.Verdict.{Writes}
+use Rattle.varint.specs.Numbers.{limit, room, encode, encodedSize, writeTests, writeVerdict}
+
+module _ (v : ℕ) (out : List ℕ) where
+  pub no-room : length out < room → Writes (writeVerdict v (length out)) (encode v) out (Refused NoRoom) out
+  unfolding writeVerdict writeTests
+  no-room h = record { answer = simp (lt-ltb _ _ h); output = simp (lt-ltb _ _ h) }
+
+  module _ (h : room ≤ length out) where
+    pub too-large : limit ≤ v → Writes (writeVerdict v (length out)) (encode v) out (Refused BadAddress) out
+    unfolding writeVerdict writeTests
+    too-large g = record { answer = simp (le-ltb _ _ h, le-leb _ _ g); output = simp (le-ltb _ _ h, le-leb _ _ g) }
+
+    module _ (g : v < limit) where
+      pub goes : writeVerdict v (length out) ≡ Go
+      unfolding writeVerdict writeTests
+      goes = simp (le-ltb _ _ h, lt-leb _ _ g)
+
+      -- e, the shortest form, stands at the front
+      pub done : {e after : List ℕ} → encode v ≡ e → after ≡ e ++ drop (length e) out → Writes (writeVerdict v (length out)) (encode v) out (Done (length e)) after
+      done f a = record { answer = rw (goes, f); output = rw (goes, f) a }
+
+      -- what a caller learns that has room and a value below the limit
+      pub wrote : {after : List ℕ} {r : Answer} → Writes (writeVerdict v (length out)) (encode v) out r after
+          → (r ≡ Done (encodedSize v)) × (after ≡ encode v ++ drop (length (encode v)) out)
+      unfolding encodedSize
+      wrote w = (rw goes at (w .answer), rw goes at (w .output))
