@@ -9,6 +9,7 @@ use borrow.Author.Tests.{eq-eqb, ne-eqb}
 use lib.Arith.{mod-mul}
 use lib.Dec.{eqb}
 use lib.Pow.{pow-mono, pow-pos, pow-add}
+use lib.Pow as Pow
 use Rattle.octets.specs.Wide.{lowZero}
 
 pub same-test : (a b : ℕ) → (a ≡ 0 → b ≡ 0) → (b ≡ 0 → a ≡ 0) → eqb a 0 ≡ eqb b 0
@@ -46,3 +47,13 @@ high j hi lo z =
 
 pub low-set : (j hi lo : ℕ) → lo < 2 ^ 64 → (lo ≡ 0 → ⊥) → false ≡ lowZero (j + 64) (hi * 2 ^ 64 + lo)
 low-set j hi lo h z = sym (ne-eqb ((hi * 2 ^ 64 + lo) % 2 ^ (j + 64)) 0 (λ e. z (omega (arith, split j hi lo h))))
+
+-- shifted down and up again, a word is the same where its lowest bits are 0
+pub shifted : (k x : ℕ) → x < 2 ^ 64 → eqb (x / 2 ^ k * 2 ^ k % 2 ^ 64) x ≡ lowZero k x
+shifted k x h =
+    let s : x / 2 ^ k * 2 ^ k + x % 2 ^ k ≡ x = Pow.split x k in
+    let m : x / 2 ^ k * 2 ^ k % 2 ^ 64 ≡ x / 2 ^ k * 2 ^ k = mod-eq-of-lt (omega arith) in
+    rw m
+    (⊎-elim (λ e. eq-eqb (x / 2 ^ k * 2 ^ k) x (omega arith) ∙ sym (eq-eqb (x % 2 ^ k) 0 e))
+    (λ g. ne-eqb (x / 2 ^ k * 2 ^ k) x (λ e. omega arith) ∙ sym (ne-eqb (x % 2 ^ k) 0 (λ e. omega arith)))
+    (eq-zero-or-pos (x % 2 ^ k)))

@@ -65,30 +65,11 @@ pub fn below(a_hi: u64, a_lo: u64, b_hi: u64, b_lo: u64) -> bool
     a_hi < b_hi
 }
 
-// 2^k.
-pub fn power_of_two(k: u64) -> u64
-    requires { ⌜ k < 64 ⌝ }
-    ensures { λ r. ⌜ r ≡ 2 ^ k ⌝ }
-{
-    let mut r: u64 = 1;
-    let mut i: u64 = 0;
-    while i < k {
-        r = r * 2;
-        i += 1;
-    }
-    r
-}
-
 // Whether the k lowest bits of x are 0.
 fn low_zero(k: u64, x: u64) -> bool
     ensures { λ r. ⌜ r ≡ lowZero k x ⌝ }
 {
-    if k < 64 {
-        let m = power_of_two(k);
-        x % m == 0
-    } else {
-        x == 0
-    }
+    if k < 64 { (x >> k) << k == x } else { x == 0 }
 }
 
 // The same of a number of 128 bits.
