@@ -1,0 +1,53 @@
+-- Whether the grants in force let a packet pass: by its addresses, its protocol, and whether it is ICMP.
+use Prim.Native.Nat.{ℕ, _-_, _/_, _^_}
+use mathlib.Core.Bool.{Bool, true, false, not, _&&_, _||_}
+use mathlib.Core.List.{List}
+use lib.Dec.{leb, eqb}
+use Rattle.octets.specs.Wide.{wide}
+use Rattle.inet.specs.declared.Address.{Address}
+use Rattle.inet.specs.Packet.{sourceOf, destinationOf, protocolOf, isIcmp}
+use Rattle.lists.specs.declared.AddressEntry.{AddressEntry}
+use Rattle.lists.specs.declared.RouteRange.{RouteRange}
+use Rattle.lists.specs.Scan.{anyOf}
+use Rattle.lists.specs.Rules.{widthOf, addressOf, startOf, endOf}
+use Rattle.verdict.specs.declared.Flow.{Flow}
+
+-- all of a packet that its verdict depends on
+unfoldable pub flowOf : List ℕ → Flow
+flowOf p = record { source = sourceOf p; destination = destinationOf p; protocol = protocolOf p; icmp = isIcmp p }
+
+abbrev pub valueOf : Address → ℕ
+valueOf a = wide (a .hi) (a .lo)
+
+-- an entry of all-zero address with full prefix length is a declined request
+abbrev pub declined : AddressEntry → Bool
+declined e = eqb (addressOf e) 0 && eqb (e .prefix) (widthOf (e .version))
+
+-- the bits before the k lowest
+abbrev pub highBits : ℕ → ℕ → ℕ
+highBits k a = a / 2 ^ k
+
+-- an entry covers an address of its version that agrees in the prefix bits; a declined request covers nothing
+unfoldable pub covers : Address → AddressEntry → Bool
+covers a e =
+    eqb (e .version) (a .version)
+    && (not (declined e)
+    && eqb (highBits (widthOf (e .version) - e .prefix) (addressOf e)) (highBits (widthOf (e .version) - e .prefix) (valueOf a)))
+
+-- a range allows a protocol if it names 0, names that protocol, or the packet is ICMP
+abbrev pub allows : ℕ → Bool → RouteRange → Bool
+allows protocol icmp r = eqb (r .protocol) 0 || (eqb (r .protocol) protocol || icmp)
+
+-- an address of its version lies in a range that allows the protocol
+unfoldable pub reaches : Address → ℕ → Bool → RouteRange → Bool
+reaches a protocol icmp r =
+    eqb (r .version) (a .version) && (leb (startOf r) (valueOf a) && (leb (valueOf a) (endOf r) && allows protocol icmp r))
+
+-- one end's address is covered, and the other end's lies in a range that allows the protocol
+abbrev pub granted : List AddressEntry → List RouteRange → Address → Address → Flow → Bool
+granted es rs near far f = anyOf (covers near) es && anyOf (reaches far (f .protocol) (f .icmp)) rs
+
+-- granted by the first lists from source to destination, or as a reply by the other lists from destination to source
+unfoldable pub passes : List AddressEntry → List RouteRange → List AddressEntry → List RouteRange → Flow → Bool
+passes es rs replyEs replyRs f =
+    granted es rs (f .source) (f .destination) f || granted replyEs replyRs (f .destination) (f .source) f
