@@ -25,10 +25,10 @@ pub fn flow(packet: &[u8]) -> Flow
     requires { ⌜ Form (now packet) ⌝ }
     ensures { λ r. ⌜ r ≡ flowOf (now (packet .entry)) ⌝ }
 {
-    let source = inet::source(packet);
-    let destination = inet::destination(packet);
-    let protocol = inet::protocol(packet);
-    let icmp = inet::is_icmp(packet);
+    let source = inet::packet::source(packet);
+    let destination = inet::packet::destination(packet);
+    let protocol = inet::packet::protocol(packet);
+    let icmp = inet::packet::is_icmp(packet);
     Flow {
         source,
         destination,
