@@ -1,20 +1,12 @@
 -- Scans of a list that is read by its indices: the invariants of the loops that look for one element, or test them all. Assumes nothing.
 use Prim.Native.Nat.{ℕ, zero, suc, _+_, _-_, _≤_, _<_}
-use mathlib.Core.Bool.{Bool, true, false, _&&_, _||_}
-use mathlib.Core.Path.{_≡_, refl, ap}
+use mathlib.Core.Bool.{Bool, true, false, _&&_, _||_, and-assoc, or-assoc}
+use mathlib.Core.Path.{_≡_, refl, sym, ap}
 use mathlib.Core.List.{List, [], _∷_, _++_}
 use native.Mathlib.Nat.{sub-zero}
 use native.Mathlib.Numerals.{add-one}
 use native.Mathlib.Omega.{arith}
 use Rattle.lists.specs.Scan.{from, anyOf, allOf}
-
-or-assoc : (a b c : Bool) → (a || (b || c)) ≡ (a || b || c)
-or-assoc true b c = refl
-or-assoc false b c = refl
-
-and-assoc : (a b c : Bool) → (a && (b && c)) ≡ (a && b && c)
-and-assoc true b c = refl
-and-assoc false b c = refl
 
 module _ {A : Type 0} where
   -- what is left at i, where the list has n elements
@@ -36,11 +28,11 @@ module _ {A : Type 0} where
 module _ {A : Type 0} (p : A → Bool) where
   pub any-append : (xs ys : List A) → anyOf p (xs ++ ys) ≡ (anyOf p xs || anyOf p ys)
   any-append [] ys = refl
-  any-append (x ∷ xs) ys = rw (any-append xs ys) (or-assoc (p x) (anyOf p xs) (anyOf p ys))
+  any-append (x ∷ xs) ys = rw (any-append xs ys) (sym (or-assoc (p x) (anyOf p xs) (anyOf p ys)))
 
   pub all-append : (xs ys : List A) → allOf p (xs ++ ys) ≡ (allOf p xs && allOf p ys)
   all-append [] ys = refl
-  all-append (x ∷ xs) ys = rw (all-append xs ys) (and-assoc (p x) (allOf p xs) (allOf p ys))
+  all-append (x ∷ xs) ys = rw (all-append xs ys) (sym (and-assoc (p x) (allOf p xs) (allOf p ys)))
 
 -- no element before i passes the test p: what those from i on say is the answer b
 pub record Seeking {A : Type 0} (p : A → Bool) (f : ℕ → A) (n : ℕ) (b : Bool) (i : ℕ) : Type 0 where

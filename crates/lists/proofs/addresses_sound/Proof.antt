@@ -34,7 +34,8 @@ entry-sound-requires c κs = search needs
 returns-2 : tie.Need-returns-2 Inv-loop μ-loop
 returns-2 c =
     let s = c .before .before in
-    Scans.all-fail (s .before .before .loop .inv) (s .before .loop-test .taken) (s .entry-at .ensures) (called-false (c .before .entry-sound .ensures) (c .if2 .taken))
+    Scans.all-fail (s .before .before .loop .inv) (s .before .loop-test .taken) (s .entry-at .ensures)
+    (called-false (c .before .entry-sound .ensures) (c .if2 .taken))
 
 add-i : tie.Need-add-i Inv-loop μ-loop
 add-i c = search needs
@@ -45,7 +46,8 @@ loop-less c = search needs
 loop-again : tie.Need-loop-again Inv-loop μ-loop
 loop-again c =
     let s = c .before .before in
-    Scans.all-pass (s .before .before .loop .inv) (s .before .loop-test .taken) (s .entry-at .ensures) (called-true (c .before .entry-sound .ensures) (c .if2 .left))
+    Scans.all-pass (s .before .before .loop .inv) (s .before .loop-test .taken) (s .entry-at .ensures)
+    (called-true (c .before .entry-sound .ensures) (c .if2 .left))
 
 returns-3 : tie.Need-returns-3 Inv-loop μ-loop
 returns-3 c = Scans.all-end (c .before .loop .inv) (c .loop-test .left)

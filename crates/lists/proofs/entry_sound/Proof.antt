@@ -13,12 +13,15 @@ below-requires : tie.Need-below-requires
 below-requires c κs = search needs
 
 returns-2 : tie.Need-returns-2
-returns-2 c = Entry.over4 _ (c .before .before .before .before .if1 .left) (c .before .before .if2 .taken) (called-false (c .before .below .ensures) (c .if3 .taken))
+returns-2 c =
+    Entry.over4 _ (c .before .before .before .before .if1 .left) (c .before .before .if2 .taken)
+    (called-false (c .before .below .ensures) (c .if3 .taken))
 
 returns-3 : tie.Need-returns-3
 returns-3 c =
     let s = c .before .before in
-    Entry.long4 _ (s .before .before .before .before .if1 .left) (s .before .before .if2 .taken) (called-true (s .before .below .ensures) (s .if3 .left)) (c .if4 .taken)
+    Entry.long4 _ (s .before .before .before .before .if1 .left) (s .before .before .if2 .taken)
+    (called-true (s .before .below .ensures) (s .if3 .left)) (c .if4 .taken)
 
 cast-low-zero-wide : tie.Need-cast-low-zero-wide
 cast-low-zero-wide c = search needs
@@ -30,7 +33,8 @@ returns-4 : tie.Need-returns-4
 returns-4 c =
     let s = c .before .before .before .before in
     c .low-zero-wide .ensures
-    ∙ Entry.low4 _ (s .before .before .before .before .if1 .left) (s .before .before .if2 .taken) (called-true (s .before .below .ensures) (s .if3 .left)) (c .before .before .if4 .left)
+    ∙ Entry.low4 _ (s .before .before .before .before .if1 .left) (s .before .before .if2 .taken)
+    (called-true (s .before .below .ensures) (s .if3 .left)) (c .before .before .if4 .left)
 
 returns-5 : tie.Need-returns-5
 returns-5 c = Entry.other-version _ (c .before .before .before .before .if1 .left) (c .before .before .if2 .left) (c .if5 .taken)

@@ -34,7 +34,8 @@ range-sound-requires c κs = search needs
 returns-2 : tie.Need-returns-2 Inv-loop μ-loop
 returns-2 c =
     let s = c .before .before in
-    List.judge-broken (s .before .before .loop .inv) (s .before .loop-test .taken) (s .range-at .ensures) (called-false (c .before .range-sound .ensures) (c .if2 .taken))
+    List.judge-broken (s .before .before .loop .inv) (s .before .loop-test .taken) (s .range-at .ensures)
+    (called-false (c .before .range-sound .ensures) (c .if2 .taken))
 
 in-order-requires : tie.Need-in-order-requires Inv-loop μ-loop
 in-order-requires c κs = search needs
@@ -43,7 +44,8 @@ returns-3 : tie.Need-returns-3 Inv-loop μ-loop
 returns-3 c =
     let s = c .before .before .before .before in
     List.judge-unordered (s .before .before .loop .inv) (s .before .loop-test .taken) (s .range-at .ensures)
-    (called-true (c .before .before .before .range-sound .ensures) (c .before .before .if2 .left)) (called-false (c .before .in-order .ensures) (c .if3 .taken))
+    (called-true (c .before .before .before .range-sound .ensures) (c .before .before .if2 .left))
+    (called-false (c .before .in-order .ensures) (c .if3 .taken))
 
 add-i : tie.Need-add-i Inv-loop μ-loop
 add-i c = search needs
@@ -55,7 +57,8 @@ loop-again : tie.Need-loop-again Inv-loop μ-loop
 loop-again c =
     let s = c .before .before .before .before in
     List.judge-next (s .before .before .loop .inv) (s .before .loop-test .taken) (s .range-at .ensures)
-    (called-true (c .before .before .before .range-sound .ensures) (c .before .before .if2 .left)) (called-true (c .before .in-order .ensures) (c .if3 .left))
+    (called-true (c .before .before .before .range-sound .ensures) (c .before .before .if2 .left))
+    (called-true (c .before .in-order .ensures) (c .if3 .left))
 
 returns-4 : tie.Need-returns-4 Inv-loop μ-loop
 returns-4 c = List.judge-end (c .before .loop .inv) (c .loop-test .left)
