@@ -49,14 +49,19 @@ fn written(value: u64) {
     let a = varint::write(value, &mut out);
     match a {
         Answer::Done(n) => {
-            if n <= 8 {
-                hex(&out[..n]);
-            }
+            hex_front(&out, n);
         }
         Answer::Refused(why) => {
             text(b"refused ");
             decimal(why.number() as u64);
         }
+    }
+}
+
+// The first n bytes.
+fn hex_front(bytes: &[u8], n: usize) {
+    if n <= bytes.len() {
+        hex(&bytes[..n]);
     }
 }
 

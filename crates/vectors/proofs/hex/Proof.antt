@@ -19,7 +19,7 @@ shared-slice-read-print-hex : tie.Need-shared-slice-read-print-hex Inv-loop μ-l
 shared-slice-read-print-hex c = omega arith
 
 cast-print-hex : tie.Need-cast-print-hex Inv-loop μ-loop
-cast-print-hex c = omega (arith, c .shared-slice-known .given (c .before .before .loop .i))
+cast-print-hex c = omega (arith, c .shared-slice-known2 .given (c .before .before .loop .i))
 
 print-hex-requires : tie.Need-print-hex-requires Inv-loop μ-loop
 print-hex-requires c κs = search needs
