@@ -111,3 +111,9 @@ lowered4 p = put16 (hop4 p) 10 (headerCheck (hop4 p))
 -- the packet as it goes on: the hop count less one and, in IPv4, the header checksum made again
 unfoldable pub lowered : List ℕ → List ℕ
 lowered p = pick (eqb (versionOf p) 4) (lowered4 p) (pick (eqb (versionOf p) 6) (hop6 p) p)
+
+-- what lowering a packet into an image asks: good form, a hop left, and room
+pub record Lowerable (p image : List ℕ) : Type 0 where
+  pub good : Form p
+  pub hops : 1 ≤ hopsOf p
+  pub room : length p ≤ length image
