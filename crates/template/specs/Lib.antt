@@ -1,0 +1,4 @@
+pub mod Pieces
+pub mod Fits
+pub mod Datagrams
+pub mod Sound
