@@ -1,10 +1,10 @@
 -- IP packets as lists of bytes: their form (RFC 791, RFC 8200), what their headers say, and the packet with one hop fewer.
-use Prim.Native.Nat.{ℕ, _+_, _-_, _*_, _/_, _%_, _≤_, _<_}
-use mathlib.Core.Bool.{Bool, true, false, _&&_, _||_}
+use Prim.Native.Nat.{ℕ, _+_, _-_, _*_, _/_, _%_, _≤_}
+use mathlib.Core.Bool.{Bool, false, _&&_, _||_}
 use mathlib.Core.List.{List}
 use mathlib.Core.Logic.{_⊎_}
 use mathlib.Core.Path.{_≡_}
-use lib.ListN.{length, getD, take, drop, set}
+use lib.ListN.{length, getD, take, set}
 use lib.Dec.{leb, eqb}
 use Rattle.answer.specs.Choice.{pick}
 use Rattle.octets.specs.Big.{bigAt}

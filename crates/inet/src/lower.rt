@@ -1,7 +1,7 @@
 // The packet with one hop fewer, made in a lent image.
 ghost use mathlib.Core.Path.{_≡_};
 ghost use mathlib.Core.List.{_++_};
-ghost use Prim.Native.Nat.{_≤_, _<_, _+_};
+ghost use Prim.Native.Nat.{_≤_};
 ghost use lib.ListN.{length, getD, drop};
 ghost use Rattle.inet.specs.Packet.{Form4, lowered4, hop6, lowered, Lowerable};
 use super::field::put_word;
