@@ -1,16 +1,14 @@
 -- What the tests of a packet's form say, as facts that `omega` reads, both ways. Assumes nothing.
-use mathlib.Core.Path.{_≡_, refl, sym, ap, _∙_}
+use mathlib.Core.Path.{_≡_, refl, sym}
 use mathlib.Core.Logic.{_⊎_, inl, inr}
-use mathlib.Core.Bool.{Bool, true, false, _&&_, _||_}
+use mathlib.Core.Bool.{Bool, true, false, _||_}
 use mathlib.Core.List.{List}
-use Prim.Native.Nat.{ℕ, _+_, _-_, _*_, _/_, _%_, _≤_, _<_}
+use Prim.Native.Nat.{ℕ, _≤_}
 use native.Mathlib.Omega.{arith}
-use lib.ListN.{length, getD, take}
-use lib.Dec.{leb, eqb}
+use lib.ListN.{length}
 use borrow.Author.Tests.{leb-true, eqb-true, le-leb, eq-eqb}
 use Rattle.answer.proofs.Tests.{and-both, only-false}
-use Rattle.inet.specs.Sum.{words, fold}
-use Rattle.inet.specs.Packet.{versionOf, headerLength, form4, form6, form, Form4, Form6, Form}
+use Rattle.inet.specs.Packet.{versionOf, form4, form6, form, Form4, Form6, Form}
 
 pub form4-facts : (p : List ℕ) → form4 p ≡ true → Form4 p
 unfolding form4

@@ -1,22 +1,20 @@
 -- What lowering a packet keeps: all but the hop count and the IPv4 header checksum, and the form. Assumes nothing.
-use mathlib.Core.Path.{_≡_, refl, sym, ap, _∙_}
+use mathlib.Core.Path.{_≡_, refl, ap, _∙_}
 use mathlib.Core.Logic.{_≢_, _⊎_, inl, inr}
 use mathlib.Core.Bool.{Bool, true, false}
 use mathlib.Core.List.{List, _++_}
-use Prim.Native.Nat.{ℕ, _+_, _-_, _*_, _/_, _%_, _≤_, _<_}
+use Prim.Native.Nat.{ℕ, _+_, _-_, _/_, _≤_, _<_}
 use native.Mathlib.Omega.{arith}
-use lib.ListN.{length, getD, take, drop, set, length-set, length-take}
+use lib.ListN.{length, getD, take, drop, length-set, length-take}
 use lib.Seq.{getD-set-other, getD-set-same, getD-take, drop-set-lt, take-append-seam, drop-append-seam, take-length}
 use lib.Dec.{eqb}
 use borrow.Author.Tests.{eqb-true, eqb-false}
 use Rattle.answer.specs.Choice.{pick}
-use Rattle.octets.specs.Big.{big, bigAt}
-use Rattle.inet.specs.declared.Address.{Address}
 use Rattle.inet.specs.Sum.{words, fold}
 use Rattle.inet.specs.Packet.{versionOf, headerLength, form, Form, Form4, Form6, address4At, address6At, sourceOf, destinationOf}
 use Rattle.inet.specs.Packet.{protocolOf, protocolByte, isIcmp, hopsOf, put16, hop4, hop6, headerCheck, lowered4, lowered}
 use Rattle.inet.proofs.WordLaws.{words-pos}
-use Rattle.inet.proofs.FormFacts.{form-facts, facts-form, form-4, form-6, is-form4, is-form6}
+use Rattle.inet.proofs.FormFacts.{form-facts, facts-form, form-4, form-6, is-form4}
 use Rattle.inet.proofs.HeaderLaws.{pick-4, pick-6, hopsOf-4, hopsOf-not-4}
 use Rattle.inet.proofs.FieldLaws.{put-length, put-other, put-take, put-drop, put-put, put-completes}
 

@@ -1,24 +1,22 @@
 -- The checksum of what a packet carries: what the code adds up, and what lowering the packet keeps. Assumes nothing.
 use mathlib.Core.Path.{_≡_, refl, sym, ap, _∙_}
-use mathlib.Core.Logic.{_≢_}
-use mathlib.Core.Bool.{Bool, true, false, _&&_, not}
+use mathlib.Core.Bool.{Bool, true, false, _&&_}
 use mathlib.Core.List.{List}
-use Prim.Native.Nat.{ℕ, _+_, _-_, _*_, _/_, _%_, _≤_, _<_}
+use Prim.Native.Nat.{ℕ, _+_, _-_, _%_, _≤_, _<_}
 use native.Mathlib.Omega.{arith}
-use lib.ListN.{length, getD, take, drop, length-drop}
-use lib.Dec.{eqb, leb}
+use lib.ListN.{length, take, drop, length-drop}
+use lib.Dec.{eqb}
 use borrow.Author.Tests.{eqb-true, eqb-false, eq-eqb, ne-eqb}
 use Rattle.answer.specs.Choice.{pick}
-use Rattle.answer.proofs.Tests.{true-or-false}
 use Rattle.octets.proofs.Parts.{tail}
 use Rattle.inet.specs.Sum.{words, fold}
 use Rattle.inet.specs.SumLaws.{fold-fits, fold-completes}
 use Rattle.inet.specs.Packet.{versionOf, protocolByte, put16, lowered}
-use Rattle.inet.specs.Transport.{addressWords, pseudoSum, seed, setField, fieldOf, fieldIs, sent, finish, completion, damaged}
+use Rattle.inet.specs.Transport.{addressWords, pseudoSum, seed, setField, fieldIs, sent, finish, completion, damaged}
 use Rattle.inet.proofs.WordLaws.{fold-add}
 use Rattle.inet.proofs.HeaderLaws.{pick-4, pick-not-4}
 use Rattle.inet.proofs.FieldLaws.{put-other, drop-put-from, words-put}
-use Rattle.inet.proofs.LoweredLaws.{pick-same, lowered-length, lowered-first, lowered-version, lowered-at, lowered-drop, lowered-drop-6, lowered-protocolByte}
+use Rattle.inet.proofs.LoweredLaws.{pick-same, lowered-length, lowered-version, lowered-at, lowered-drop, lowered-drop-6, lowered-protocolByte}
 
 -- both addresses, version by version
 module _ (p : List ℕ) where

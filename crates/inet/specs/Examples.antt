@@ -3,10 +3,8 @@ use mathlib.Core.Path.{_≡_, refl}
 use mathlib.Core.Bool.{true, false}
 use mathlib.Core.List.{List, [], _∷_}
 use Prim.Native.Nat.{ℕ}
-use lib.ListN.{getD}
-use Rattle.inet.specs.declared.Address.{Address}
 use Rattle.inet.specs.Sum.{words, fold, carry}
-use Rattle.inet.specs.Packet.{form4, form6, form, sourceOf, destinationOf, protocolOf, protocolByte, isIcmp, hopsOf, put16, headerCheck, lowered4, lowered}
+use Rattle.inet.specs.Packet.{form4, form6, form, sourceOf, destinationOf, protocolOf, protocolByte, isIcmp, put16, headerCheck, lowered4, lowered}
 use Rattle.inet.specs.Transport.{addressWords, seed, fieldIs, sent, finish, completion, damaged}
 
 -- RFC 1071, section 3

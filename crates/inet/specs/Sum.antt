@@ -1,5 +1,5 @@
 -- The sums of RFC 1071.
-use Prim.Native.Nat.{ℕ, zero, suc, _+_, _-_, _*_, _/_, _%_, min}
+use Prim.Native.Nat.{ℕ, _+_, _-_, _*_, _/_, _%_, min}
 use mathlib.Core.List.{List, [], _∷_}
 
 -- the sum of the big-endian 16-bit words of a list of bytes; an odd last byte is the high half of its word

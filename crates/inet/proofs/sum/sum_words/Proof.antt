@@ -1,6 +1,6 @@
 -- The sum so far and the words still to come make the words of all; no turn adds more than 65535 a byte. Assumes nothing.
 use borrow.Author.Needs.{needs}
-use Prim.Native.Nat.{ℕ, _≤_, _*_, _-_, _+_}
+use Prim.Native.Nat.{_≤_, _*_, _-_, _+_}
 use mathlib.Core.Path.{_≡_}
 use native.Mathlib.Omega.{arith}
 use lib.ListN.{length, drop}
