@@ -60,6 +60,10 @@ unfoldable pub passes : List AddressEntry → List RouteRange → List AddressEn
 passes es rs replyEs replyRs f =
     granted es rs (f .source) (f .destination) f || granted replyEs replyRs (f .destination) (f .source) f
 
+-- the same flow with its two ends exchanged
+abbrev pub reversed : Flow → Flow
+reversed f = record { source = f .destination; destination = f .source; protocol = f .protocol; icmp = f .icmp }
+
 -- all four lists keep their rules
 unfoldable pub allSound : List ℕ → List ℕ → List ℕ → List ℕ → Bool
 allSound addresses routes replyAddresses replyRoutes =

@@ -1,12 +1,11 @@
 // Address entries and the addresses they cover.
 ghost use mathlib.Core.Path.{_≡_};
-ghost use Prim.Native.Nat.{_≤_};
 ghost use lib.Dec.{eqb};
 ghost use Rattle.octets.specs.Wide.{wide};
 ghost use Rattle.lists.specs.Scan.{anyOf};
 ghost use Rattle.lists.specs.Rules.{widthOf};
 ghost use Rattle.lists.specs.Words.{entriesOf};
-ghost use Rattle.verdict.specs.Granted.{beyond, declined, highBits, covers};
+ghost use Rattle.verdict.specs.Granted.{declined, beyond, highBits, covers};
 use inet::Address;
 use lists::ADDRESS_WORDS;
 use lists::AddressEntry;
@@ -59,7 +58,7 @@ fn is_declined(e: AddressEntry) -> bool
 
 // The number of address bits beyond an entry's prefix; 0 where the prefix is longer than the address.
 fn beyond(e: AddressEntry) -> u64
-    ensures { λ r. ⌜ (r ≡ beyond e) × (r ≤ 128) ⌝ }
+    ensures { λ r. ⌜ r ≡ beyond e ⌝ }
 {
     let bits = width(e.version);
     if e.prefix < bits { (bits - e.prefix) as u64 } else { 0 }
@@ -74,7 +73,6 @@ fn width(version: u8) -> u8
 
 // Whether two numbers of 128 bits agree in all but the k lowest bits.
 fn same_high(k: u64, a_hi: u64, a_lo: u64, b_hi: u64, b_lo: u64) -> bool
-    requires { ⌜ k ≤ 128 ⌝ }
     ensures { λ r. ⌜ r ≡ eqb (highBits k (wide «a_hi» «a_lo»)) (highBits k (wide «b_hi» «b_lo»)) ⌝ }
 {
     if k < 64 {
