@@ -61,7 +61,11 @@ fn beyond(e: AddressEntry) -> u64
     ensures { λ r. ⌜ r ≡ beyond e ⌝ }
 {
     let bits = width(e.version);
-    if e.prefix < bits { (bits - e.prefix) as u64 } else { 0 }
+    if e.prefix < bits {
+        (bits - e.prefix) as u64
+    } else {
+        0
+    }
 }
 
 // The bits of an address.

@@ -15,7 +15,7 @@ routes-sound-requires : tie.Need-routes-sound-requires
 routes-sound-requires c κs = search needs
 
 returns-2 : tie.Need-returns-2
-returns-2 c = 
+returns-2 c =
     let s = c .before .before in
     Pass.sound-second _ _ _ _ (called-true (s .before .addresses-sound .ensures) (s .if1 .left)) (called-false (c .before .routes-sound .ensures) (c .if2 .taken))
 
@@ -23,7 +23,7 @@ addresses-sound-requires-2 : tie.Need-addresses-sound-requires-2
 addresses-sound-requires-2 c κs = search needs
 
 returns-3 : tie.Need-returns-3
-returns-3 c = 
+returns-3 c =
     let t = c .before .before in
     let s = t .before .before in
     Pass.sound-third _ _ _ _ (called-true (s .before .addresses-sound .ensures) (s .if1 .left)) (called-true (t .before .routes-sound .ensures) (t .if2 .left)) (called-false (c .before .addresses-sound2 .ensures) (c .if3 .taken))
@@ -32,7 +32,7 @@ routes-sound-requires-2 : tie.Need-routes-sound-requires-2
 routes-sound-requires-2 c κs = search needs
 
 returns-4 : tie.Need-returns-4
-returns-4 c = 
+returns-4 c =
     let u = c .before in
     let t = u .before .before in
     let s = t .before .before in

@@ -1,7 +1,6 @@
 -- The invariant: what the entries from i on say is the answer (`Seeking`); each turn is `any-hit` or `any-miss`. Assumes nothing.
 use Prim.Native.Nat.{_-_}
 use mathlib.Core.Path.{sym, _∙_}
-
 use native.Mathlib.Omega.{arith}
 use Rattle.lists.specs.Scan.{anyOf}
 use Rattle.lists.specs.Words.{entryAt, entriesOf}
@@ -22,12 +21,12 @@ element-copy-out-count : tie.Need-element-copy-out-count Inv-loop μ-loop
 element-copy-out-count c = search needs
 
 returns : tie.Need-returns Inv-loop μ-loop
-returns c = 
+returns c =
     let a = c .before .before .args in
     Lists.any-entry-over (a .w .now) (covers (a .a)) (omega arith)
 
 loop-holds : tie.Need-loop-holds Inv-loop μ-loop
-loop-holds c = 
+loop-holds c =
     let a = c .before .before .args in
     Lists.any-entry (a .w .now) (covers (a .a)) (omega arith)
 
@@ -38,7 +37,7 @@ covers-requires : tie.Need-covers-requires Inv-loop μ-loop
 covers-requires c κs = search needs
 
 returns-2 : tie.Need-returns-2 Inv-loop μ-loop
-returns-2 c = 
+returns-2 c =
     let s = c .before .before in
     Scans.any-hit (s .before .before .loop .inv) (s .before .loop-test .taken) (s .entry-at .ensures) (sym (c .before .covers .ensures) ∙ c .if2 .taken)
 
@@ -49,7 +48,7 @@ loop-less : tie.Need-loop-less Inv-loop μ-loop
 loop-less c = search needs
 
 loop-again : tie.Need-loop-again Inv-loop μ-loop
-loop-again c = 
+loop-again c =
     let s = c .before .before in
     Scans.any-miss (s .before .before .loop .inv) (s .before .loop-test .taken) (s .entry-at .ensures) (sym (c .before .covers .ensures) ∙ c .if2 .left)
 

@@ -21,7 +21,7 @@ same-high-requires : tie.Need-same-high-requires
 same-high-requires c κs = search needs
 
 returns-3 : tie.Need-returns-3
-returns-3 c = 
+returns-3 c =
     let s = c .before .before .before in
     Cover.covers-high _ _ (s .before .if1 .left) (s .is-declined .ensures) (c .before .before .if2 .left) (c .before .beyond .ensures) (c .same-high .ensures)
 

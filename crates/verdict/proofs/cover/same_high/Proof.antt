@@ -6,7 +6,7 @@ use Rattle.verdict.proofs.cover.same_high.Statement.{statement}
 use Rattle.verdict.proofs.cover.same_high.Tie as tie
 
 returns : tie.Need-returns
-returns c = 
+returns c =
     let a = c .before .before .args in
     High.high-differ (a .k) (a .a-hi) (a .a-lo) (a .b-hi) (a .b-lo) (omega arith) (omega arith) (omega arith) (c .if2 .taken)
 
@@ -17,7 +17,7 @@ shr-result-2 : tie.Need-shr-result-2
 shr-result-2 c = search needs
 
 returns-2 : tie.Need-returns-2
-returns-2 c = 
+returns-2 c =
     let a = c .before .before .args in
     High.high-same-low (a .k) (a .a-hi) (a .a-lo) (a .b-hi) (a .b-lo) (omega arith) (c .if2 .left)
 
@@ -28,12 +28,12 @@ shr-result-4 : tie.Need-shr-result-4
 shr-result-4 c = search needs
 
 returns-3 : tie.Need-returns-3
-returns-3 c = 
+returns-3 c =
     let a = c .before .before .args in
     High.high-same-high (a .k) (a .a-hi) (a .a-lo) (a .b-hi) (a .b-lo) (omega arith) (omega arith) (omega arith)
 
 returns-4 : tie.Need-returns-4
-returns-4 c = 
+returns-4 c =
     let a = c .before .before .args in
     High.high-same-none (a .k) (a .a-hi) (a .a-lo) (a .b-hi) (a .b-lo) (omega arith) (omega arith) (omega arith) (omega arith) (omega arith)
 

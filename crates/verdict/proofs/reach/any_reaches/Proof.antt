@@ -1,7 +1,6 @@
 -- The invariant: what the ranges from i on say is the answer (`Seeking`); each turn is `any-hit` or `any-miss`. Assumes nothing.
 use Prim.Native.Nat.{_-_}
 use mathlib.Core.Path.{sym, _∙_}
-
 use native.Mathlib.Omega.{arith}
 use Rattle.lists.specs.Scan.{anyOf}
 use Rattle.lists.specs.Words.{rangeAt, rangesOf}
@@ -22,12 +21,12 @@ element-copy-out-count : tie.Need-element-copy-out-count Inv-loop μ-loop
 element-copy-out-count c = search needs
 
 returns : tie.Need-returns Inv-loop μ-loop
-returns c = 
+returns c =
     let a = c .before .before .args in
     Lists.any-range-over (a .w .now) (reaches (a .a) (a .protocol) (a .icmp)) (omega arith)
 
 loop-holds : tie.Need-loop-holds Inv-loop μ-loop
-loop-holds c = 
+loop-holds c =
     let a = c .before .before .args in
     Lists.any-range (a .w .now) (reaches (a .a) (a .protocol) (a .icmp)) (omega arith)
 
@@ -38,7 +37,7 @@ reaches-requires : tie.Need-reaches-requires Inv-loop μ-loop
 reaches-requires c κs = search needs
 
 returns-2 : tie.Need-returns-2 Inv-loop μ-loop
-returns-2 c = 
+returns-2 c =
     let s = c .before .before in
     Scans.any-hit (s .before .before .loop .inv) (s .before .loop-test .taken) (s .range-at .ensures) (sym (c .before .reaches .ensures) ∙ c .if2 .taken)
 
@@ -49,7 +48,7 @@ loop-less : tie.Need-loop-less Inv-loop μ-loop
 loop-less c = search needs
 
 loop-again : tie.Need-loop-again Inv-loop μ-loop
-loop-again c = 
+loop-again c =
     let s = c .before .before in
     Scans.any-miss (s .before .before .loop .inv) (s .before .loop-test .taken) (s .range-at .ensures) (sym (c .before .reaches .ensures) ∙ c .if2 .left)
 
