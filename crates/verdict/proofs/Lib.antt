@@ -1,0 +1,4 @@
+pub mod HighBits
+pub mod CoverLaws
+pub mod ReachLaws
+pub mod PassLaws
