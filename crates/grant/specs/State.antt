@@ -55,3 +55,40 @@ mirrored g =
       «given_addresses» = g .«received_addresses»;
       «given_routes» = g .«received_routes»;
     }
+
+-- exactly one list replaced
+abbrev pub withReceivedAddresses : Grants → AddressList → Grants
+withReceivedAddresses g l =
+    record {
+      «received_addresses» = l;
+      «received_routes» = g .«received_routes»;
+      «given_addresses» = g .«given_addresses»;
+      «given_routes» = g .«given_routes»;
+    }
+
+abbrev pub withReceivedRoutes : Grants → RouteList → Grants
+withReceivedRoutes g l =
+    record {
+      «received_addresses» = g .«received_addresses»;
+      «received_routes» = l;
+      «given_addresses» = g .«given_addresses»;
+      «given_routes» = g .«given_routes»;
+    }
+
+abbrev pub withGivenAddresses : Grants → AddressList → Grants
+withGivenAddresses g l =
+    record {
+      «received_addresses» = g .«received_addresses»;
+      «received_routes» = g .«received_routes»;
+      «given_addresses» = l;
+      «given_routes» = g .«given_routes»;
+    }
+
+abbrev pub withGivenRoutes : Grants → RouteList → Grants
+withGivenRoutes g l =
+    record {
+      «received_addresses» = g .«received_addresses»;
+      «received_routes» = g .«received_routes»;
+      «given_addresses» = g .«given_addresses»;
+      «given_routes» = l;
+    }

@@ -1,4 +1,4 @@
--- Lists that replace each other: a received type 1 or 3 the received list, a written one the given list.
+-- Capsules against the grants: a received type 1 or 3 replaces the received list, a written one the given list.
 use mathlib.Core.Path.{_≡_}
 use mathlib.Core.Bool.{Bool, true, false, not}
 use mathlib.Core.List.{List}
@@ -20,23 +20,10 @@ use Rattle.capsule.specs.declared.CapsuleRead.{CapsuleRead}
 use Rattle.capsule.specs.Capsules.{capsuleBytes, assign, advertise}
 use Rattle.capsule.specs.Results.{alone, readAt}
 use Rattle.capsule_write.specs.Verdicts.{capsuleRoom, entriesVerdict, rangesVerdict}
 use Rattle.grant.specs.declared.Grants.{Grants}
-use Rattle.grant.specs.declared.GrantsRead.{GrantsRead}
-use Rattle.grant.specs.declared.GrantsWritten.{GrantsWritten}
-use Rattle.grant.specs.State.{soundGrants}
-
--- exactly one list replaced
-abbrev pub withReceivedAddresses : Grants → AddressList → Grants
-withReceivedAddresses g l = record { «received_addresses» = l; «received_routes» = g .«received_routes»; «given_addresses» = g .«given_addresses»; «given_routes» = g .«given_routes» }
-
-abbrev pub withReceivedRoutes : Grants → RouteList → Grants
-withReceivedRoutes g l = record { «received_addresses» = g .«received_addresses»; «received_routes» = l; «given_addresses» = g .«given_addresses»; «given_routes» = g .«given_routes» }
-
-abbrev pub withGivenAddresses : Grants → AddressList → Grants
-withGivenAddresses g l = record { «received_addresses» = g .«received_addresses»; «received_routes» = g .«received_routes»; «given_addresses» = l; «given_routes» = g .«given_routes» }
-
-abbrev pub withGivenRoutes : Grants → RouteList → Grants
-withGivenRoutes g l = record { «received_addresses» = g .«received_addresses»; «received_routes» = g .«received_routes»; «given_addresses» = g .«given_addresses»; «given_routes» = l }
+use Rattle.exchange.specs.declared.GrantsRead.{GrantsRead}
+use Rattle.exchange.specs.declared.GrantsWritten.{GrantsWritten}
+use Rattle.grant.specs.State.{soundGrants, withReceivedAddresses, withReceivedRoutes, withGivenAddresses, withGivenRoutes}
 
 -- ---- reading
 
