@@ -1,15 +1,16 @@
 -- An entry that covers an address, by its cases in the code's order; a declined request and an entry of prefix 0. Assumes nothing.
 use Prim.Native.Nat.{ℕ, _^_, _<_}
 use mathlib.Core.Bool.{Bool, true, false, not, _&&_}
-use mathlib.Core.Path.{_≡_, refl, sym, ap, _∙_}
+use mathlib.Core.Path.{_≡_, refl, sym, _∙_}
 use native.Mathlib.Nat.{sub-zero, div-eq-of-lt}
 use native.Mathlib.Omega.{arith}
 use borrow.Author.Tests.{eq-eqb, ne-eqb}
 use lib.Dec.{eqb}
 use Rattle.inet.specs.declared.Address.{Address}
 use Rattle.lists.specs.declared.AddressEntry.{AddressEntry}
-use Rattle.lists.specs.Rules.{widthOf, addressOf}
+use Rattle.lists.specs.Rules.{widthOf, addressOf, soundEntry}
 use Rattle.verdict.specs.Granted.{valueOf, declined, beyond, highBits, covers}
+use Rattle.verdict.proofs.AddressBounds.{entry-within}
 
 and-false : (a : Bool) → (a && false) ≡ false
 and-false true = refl
@@ -57,3 +58,8 @@ module _ (a : Address) (e : AddressEntry) where
   unfolding covers
   covers-prefix-zero z v f g =
       rw (eq-eqb (e .version) (a .version) v, declined-prefix-zero e z, z, sub-zero, div-eq-of-lt f, div-eq-of-lt g)
+
+  pub covers-all : soundEntry e ≡ true → e .hi < 2 ^ 64 → e .lo < 2 ^ 64 → e .prefix ≡ 0 → e .version ≡ a .version
+      → valueOf a < 2 ^ widthOf (a .version) → covers a e ≡ true
+  covers-all s h l z v g =
+      covers-prefix-zero z v (entry-within e s h l) (rw v g)

@@ -1,8 +1,9 @@
 -- The verdict on a flow: what lowering keeps, the two ends exchanged, and ICMP. Assumes nothing.
 use Prim.Native.Nat.{ℕ}
 use mathlib.Core.Bool.{Bool, true, false, _&&_, _||_}
-use mathlib.Core.Path.{_≡_, refl, sym, ap, _∙_}
+use mathlib.Core.Path.{_≡_, refl, sym}
 use mathlib.Core.List.{List, [], _∷_}
+use native.Mathlib.Omega.{arith}
 use lib.Dec.{eqb}
 use Rattle.inet.specs.declared.Address.{Address}
 use Rattle.inet.specs.Packet.{versionOf, sourceOf, destinationOf, protocolOf, isIcmp, lowered}
@@ -32,6 +33,10 @@ pub icmp-6-not-1 : (p : List ℕ) → versionOf p ≡ 6 → protocolOf p ≡ 1 �
 icmp-6-not-1 p v e = sym (isIcmp-6 p v (sym e))
 
 -- ---- the verdict
+
+and-both : (a b : Bool) → (a && b) ≡ true → (a ≡ true) × (b ≡ true)
+and-both true b e = (refl, e)
+and-both false b e = (e, let z : _≡_ {A = ℕ} 0 1 = cc in absurd (omega arith))
 
 or-comm : (a b : Bool) → (a || b) ≡ (b || a)
 or-comm true true = refl
@@ -107,3 +112,39 @@ module _ (a b c d : List ℕ) where
   pub sound-last : {t : Bool} → soundAddresses a ≡ true → soundRoutes b ≡ true → soundAddresses c ≡ true → t ≡ soundRoutes d → t ≡ allSound a b c d
   unfolding allSound
   sound-last e f g h = rw (e, f, g) h
+
+-- what sound lists are
+pub record AllSound (a b c d : List ℕ) : Type 0 where
+  pub addresses : soundAddresses a ≡ true
+  pub routes : soundRoutes b ≡ true
+  pub reply-addresses : soundAddresses c ≡ true
+  pub reply-routes : soundRoutes d ≡ true
+
+module _ (a b c d : List ℕ) where
+  pub sound-facts : allSound a b c d ≡ true → AllSound a b c d
+  unfolding allSound
+  sound-facts h =
+      let first = and-both (soundAddresses a) (soundRoutes b && (soundAddresses c && soundRoutes d)) h in
+      let second = and-both (soundRoutes b) (soundAddresses c && soundRoutes d) (first .1) in
+      let third = and-both (soundAddresses c) (soundRoutes d) (second .1) in
+      record { addresses = first .0; routes = second .0; reply-addresses = third .0; reply-routes = third .1 }
+
+  pub facts-sound : AllSound a b c d → allSound a b c d ≡ true
+  unfolding allSound
+  facts-sound f = rw (f .addresses, f .routes, f .reply-addresses) (f .reply-routes)
+
+  -- the four lists in the other order
+  pub sound-swapped : allSound c d a b ≡ allSound a b c d
+  unfolding allSound
+  sound-swapped = swap (soundAddresses a) (soundRoutes b) (soundAddresses c) (soundRoutes d)
+    where
+      swap : (s t u v : Bool) → (u && (v && (s && t))) ≡ (s && (t && (u && v)))
+      swap true true true true = refl
+      swap true true true false = refl
+      swap true true false v = refl
+      swap true false true true = refl
+      swap true false true false = refl
+      swap true false false v = refl
+      swap false t true true = refl
+      swap false t true false = refl
+      swap false t false v = refl

@@ -1,13 +1,13 @@
 -- A range that holds an address and allows a protocol, by its cases in the code's order. Assumes nothing.
 use Prim.Native.Nat.{ℕ}
 use mathlib.Core.Bool.{Bool, true, false}
-use mathlib.Core.Path.{_≡_, refl}
+use mathlib.Core.Path.{_≡_}
 use borrow.Author.Tests.{eq-eqb, ne-eqb}
-use lib.Dec.{leb, eqb}
+use lib.Dec.{leb}
 use Rattle.inet.specs.declared.Address.{Address}
 use Rattle.lists.specs.declared.RouteRange.{RouteRange}
 use Rattle.lists.specs.Rules.{startOf, endOf}
-use Rattle.verdict.specs.Granted.{valueOf, holds, reaches}
+use Rattle.verdict.specs.Granted.{valueOf, reaches}
 
 module _ (a : Address) (p : ℕ) (icmp : Bool) (r : RouteRange) where
   pub reaches-other-version : (r .version ≡ a .version → ⊥) → false ≡ reaches a p icmp r

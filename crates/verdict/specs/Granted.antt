@@ -1,6 +1,6 @@
 -- Whether the grants in force let a packet pass: by its addresses, its protocol, and whether it is ICMP.
 use Prim.Native.Nat.{ℕ, _-_, _/_, _^_}
-use mathlib.Core.Bool.{Bool, true, false, not, _&&_, _||_}
+use mathlib.Core.Bool.{Bool, not, _&&_, _||_}
 use mathlib.Core.List.{List}
 use lib.Dec.{leb, eqb}
 use Rattle.octets.specs.Wide.{wide}

@@ -31,7 +31,7 @@ pub fn any_covers(w: &[u64; ADDRESS_WORDS], a: Address) -> bool
 }
 
 // Whether an entry covers an address.
-pub fn covers(e: AddressEntry, a: Address) -> bool
+fn covers(e: AddressEntry, a: Address) -> bool
     ensures { λ r. ⌜ r ≡ covers a e ⌝ }
 {
     if e.version != a.version {

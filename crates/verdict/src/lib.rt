@@ -1,7 +1,7 @@
 // Whether lists of addresses and routes let a packet pass: cover, allowance, and the rule for replies.
 // The lists are lent as words, so that no packet pays for a copy; they are sound lists, or the answer is that of what they hold.
-pub mod cover; // cover.rt: address entries and the addresses they cover
-pub mod reach; // reach.rt: route ranges and the addresses and protocols they let through
+mod cover; // cover.rt: address entries and the addresses they cover
+mod reach; // reach.rt: route ranges and the addresses and protocols they let through
 
 use inet::Address;
 use lists::ADDRESS_WORDS;

@@ -28,7 +28,7 @@ pub fn any_reaches(w: &[u64; ROUTE_WORDS], a: Address, protocol: u8, icmp: bool)
 }
 
 // Whether a range holds an address and allows a protocol.
-pub fn reaches(r: RouteRange, a: Address, protocol: u8, icmp: bool) -> bool
+fn reaches(r: RouteRange, a: Address, protocol: u8, icmp: bool) -> bool
     ensures { λ b. ⌜ b ≡ reaches a protocol icmp r ⌝ }
 {
     if r.version != a.version {

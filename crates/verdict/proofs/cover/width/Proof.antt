@@ -1,6 +1,5 @@
 -- The width by the version. Assumes nothing.
 use borrow.Author.Tests.{eq-eqb, ne-eqb}
-use borrow.Author.Needs.{needs}
 use Rattle.verdict.proofs.cover.width.Statement.{statement}
 use Rattle.verdict.proofs.cover.width.Tie as tie
 
