@@ -1,0 +1,6 @@
+pub mod EntryCases
+pub mod RangeCases
+pub mod Turn
+pub mod FrameCases
+pub mod Seen
+pub mod RangesTurn
