@@ -74,5 +74,57 @@ module _ (n m : ℕ) (t : List ℕ) (d e : AddressEntry) (size : ℕ) where
       (w, record { long = leb-true m (length t) (p .0); sound = rw w at (p .1); taken = cc })
   picked false q h = let z : _≡_ {A = ℕ} 0 1 = cc in absurd (omega arith)
 
-  pub whole : wholeEntry n m t d ≡ Good e size → (d ≡ e) × (Body n m t e size)
+  whole : wholeEntry n m t d ≡ Good e size → (d ≡ e) × (Body n m t e size)
   whole h = picked (leb m (length t) && soundEntry d) refl h
+
+-- behind an ID an entry of version 4, or of version 6
+pub data BodyTaken (id n : ℕ) (t : List ℕ) (e : AddressEntry) (size : ℕ) : Type 0 where
+  ipv4 : getD t 0 0 ≡ 4 → entry4 id t ≡ e → Body n 6 t e size → BodyTaken id n t e size
+  ipv6 : getD t 0 0 ≡ 6 → entry6 id t ≡ e → Body n 18 t e size → BodyTaken id n t e size
+
+pub record Taken (s : List ℕ) (e : AddressEntry) (size : ℕ) : Type 0 where
+  pub id : ℕ
+  pub n : ℕ
+  pub number : readNumber s ≡ Whole id n
+  pub body : BodyTaken id n (drop n s) e size
+
+module _ (id n : ℕ) (t : List ℕ) (e : AddressEntry) (size : ℕ) where
+  body-taken : readBody id n t ≡ Good e size → BodyTaken id n t e size
+  unfolding readBody
+  body-taken h = four (eqb (getD t 0 0) 4) refl h
+    where
+      six : (b : Bool) → eqb (getD t 0 0) 6 ≡ b → pick b (wholeEntry n 18 t (entry6 id t)) Bad ≡ Good e size → BodyTaken id n t e size
+      six true v q = let w = whole n 18 t (entry6 id t) e size q in ipv6 (eqb-true (getD t 0 0) 6 v) (w .0) (w .1)
+      six false v q = let z : _≡_ {A = ℕ} 0 1 = cc in absurd (omega arith)
+
+      four : (b : Bool) → eqb (getD t 0 0) 4 ≡ b → pick b (wholeEntry n 6 t (entry4 id t)) (pick (eqb (getD t 0 0) 6) (wholeEntry n 18 t (entry6 id t)) Bad) ≡ Good e size → BodyTaken id n t e size
+      four true v q = let w = whole n 6 t (entry4 id t) e size q in ipv4 (eqb-true (getD t 0 0) 4 v) (w .0) (w .1)
+      four false v q = six (eqb (getD t 0 0) 6) refl q
+
+  body-size : BodyTaken id n t e size → (n + 6 ≤ size) × (size ≤ n + length t)
+  body-size (ipv4 v q w) = (omega (arith, w .taken), omega (arith, w .taken, w .long))
+  body-size (ipv6 v q w) = (omega (arith, w .taken), omega (arith, w .taken, w .long))
+
+  body-sound : BodyTaken id n t e size → soundEntry e ≡ true
+  body-sound (ipv4 v q w) = w .sound
+  body-sound (ipv6 v q w) = w .sound
+
+module _ (s : List ℕ) (e : AddressEntry) (m : ℕ) where
+  pub taken : readEntry s ≡ Good e m → Taken s e m
+  unfolding readEntry
+  taken h = after (readNumber s) refl h
+    where
+      after : (r : NumberRead) → readNumber s ≡ r → afterId s r ≡ Good e m → Taken s e m
+      after (Whole id n) q g = record { id = id; n = n; number = q; body = body-taken id n (drop n s) e m g }
+      after Cut q g = let z : _≡_ {A = ℕ} 0 1 = cc in absurd (omega arith)
+
+  -- a Request ID takes a byte at least, and what follows it 6
+  pub size : readEntry s ≡ Good e m → (7 ≤ m) × (m ≤ length s)
+  size h =
+      let t = taken h in
+      let k = Number.taken s (t .id) (t .n) (t .number) in
+      let b = body-size (t .id) (t .n) (drop (t .n) s) e m (t .body) in
+      (omega (arith, k .some, b .0), omega (arith, k .within, b .1, length-drop (t .n) s))
+
+  pub sound : readEntry s ≡ Good e m → soundEntry e ≡ true
+  sound h = let t = taken h in body-sound (t .id) (t .n) (drop (t .n) s) e m (t .body)

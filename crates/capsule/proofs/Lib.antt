@@ -4,3 +4,4 @@ pub mod Turn
 pub mod FrameCases
 pub mod Seen
 pub mod RangesTurn
+pub mod EntriesTurn
