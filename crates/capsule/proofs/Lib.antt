@@ -5,3 +5,4 @@ pub mod FrameCases
 pub mod Seen
 pub mod RangesTurn
 pub mod EntriesTurn
+pub mod ValueCases

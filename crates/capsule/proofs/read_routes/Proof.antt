@@ -1,3 +1,9 @@
+use Rattle.capsule.specs.Elements.{elementsIn}
+use Rattle.capsule.specs.Entries.{rangeFormat}
+use Rattle.lists.specs.Words.{maxRanges}
+use mathlib.Core.Bool.{false}
+use mathlib.Core.Path.{_≡_, sym, ap, _∙_}
+use Rattle.capsule.proofs.ValueCases as Value
 use borrow.Author.Needs.{needs}
 use Rattle.capsule.proofs.read_routes.Statement.{statement}
 use Rattle.capsule.proofs.read_routes.Tie as tie
@@ -29,11 +35,11 @@ with-no-list-requires c κs = search needs
 
 -- src/lib.rt:235:1
 returns : tie.Need-returns
-returns c = search needs
+returns c = let a = c .before .before .before .before .before .before .args in Value.routes-taken (a .next) (elementsIn rangeFormat false maxRanges (a .value .now)) _ _ (c .before .before .before .before .read-ranges .ensures) (c .no-addresses .ensures) (c .before .enum-told .given .1)
 
 -- src/lib.rt:235:1
 returns-2 : tie.Need-returns-2
-returns-2 c = search needs
+returns-2 c = let a = c .before .before .before .before .before .before .before .args in c .with-no-list .ensures ∙ Value.routes-refused (a .next) (elementsIn rangeFormat false maxRanges (a .value .now)) _ _ (c .before .before .before .before .before .read-ranges .ensures) (c .before .before .verdict .given .1)
 
 pub read-routes-spec : {M : Type 1} → statement M
 read-routes-spec =

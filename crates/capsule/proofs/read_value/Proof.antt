@@ -1,3 +1,6 @@
+use mathlib.Core.Path.{_≡_, sym, ap, _∙_}
+use native.Mathlib.Omega.{arith}
+use Rattle.capsule.proofs.ValueCases as Value
 use borrow.Author.Needs.{needs}
 use Rattle.capsule.proofs.read_value.Statement.{statement}
 use Rattle.capsule.proofs.read_value.Tie as tie
@@ -21,31 +24,31 @@ with-no-list-requires c κs = search needs
 
 -- src/lib.rt:188:9
 returns : tie.Need-returns
-returns c = search needs
+returns c = c .with-no-list .ensures ∙ Value.datagram-value _ _ _ _ (c .before .if1 .taken)
 
 -- src/lib.rt:195:9
 read-addresses-requires : tie.Need-read-addresses-requires
-read-addresses-requires c κs = search needs
+read-addresses-requires c κs = c .before .before .before .pre .short (omega arith)
 
 -- src/lib.rt:195:9
 returns-2 : tie.Need-returns-2
-returns-2 c = search needs
+returns-2 c = c .read-addresses .ensures ∙ Value.assign-value _ _ _ _ (c .before .if2 .taken)
 
 -- src/lib.rt:198:9
 read-addresses-requires-2 : tie.Need-read-addresses-requires-2
-read-addresses-requires-2 c κs = search needs
+read-addresses-requires-2 c κs = c .before .before .before .before .pre .short (omega arith)
 
 -- src/lib.rt:198:9
 returns-3 : tie.Need-returns-3
-returns-3 c = search needs
+returns-3 c = c .read-addresses2 .ensures ∙ Value.request-value _ _ _ _ (c .before .if3 .taken)
 
 -- src/lib.rt:201:9
 read-routes-requires : tie.Need-read-routes-requires
-read-routes-requires c κs = search needs
+read-routes-requires c κs = c .before .before .before .before .before .pre .short (omega arith)
 
 -- src/lib.rt:201:9
 returns-4 : tie.Need-returns-4
-returns-4 c = search needs
+returns-4 c = c .read-routes .ensures ∙ Value.advertise-value _ _ _ _ (c .before .if4 .taken)
 
 -- src/lib.rt:203:5
 with-no-list-requires-2 : tie.Need-with-no-list-requires-2
@@ -53,7 +56,7 @@ with-no-list-requires-2 c κs = search needs
 
 -- src/lib.rt:181:1
 returns-5 : tie.Need-returns-5
-returns-5 c = search needs
+returns-5 c = c .with-no-list2 .ensures ∙ Value.other-value _ _ _ _ (c .before .before .before .before .if1 .left) (c .before .before .before .if2 .left) (c .before .before .if3 .left) (c .before .if4 .left)
 
 pub read-value-spec : {M : Type 1} → statement M
 read-value-spec =

@@ -1,11 +1,4 @@
-use denote.Enum.Declared.{tagOf}
-use Rattle.capsule.proofs.Outcome.{the-type}
-use Prim.Native.Nat.{ℕ}
-use mathlib.Core.Path.{_≡_, refl, sym, ap, _∙_}
-use mathlib.Core.List.{List, [], _∷_}
-use types.Run.{OneOf}
-use Rattle.capsule.specs.declared.Outcome.{Outcome}
-use Rattle.capsule.specs.declared.Outcome.the-variants.{Datagram, Assigned, Requested, Advertised, Skipped, Refused}
+use mathlib.Core.Path.{sym, ap, _∙_}
 use Rattle.capsule.specs.Results.{outcomeNumber}
 use borrow.Author.Needs.{needs}
 use Rattle.capsule.proofs.Outcome.number.Statement.{statement}
@@ -14,34 +7,72 @@ use Rattle.capsule.proofs.Outcome.number.Reads as reads
 use Rattle.capsule.proofs.Outcome.number.Lts as lts
 use Rattle.answer.proofs.Refusal.number.Reads as number-reads
 
+-- src/lib.rt:82:18
+enum-told : tie.Need-enum-told
+enum-told c = search needs
 
--- <<<
--- no other variant is a refusal
-taken : (o : Outcome) → OneOf (0 ∷ 1 ∷ 2 ∷ 3 ∷ 4 ∷ []) (tagOf the-type o) → 0 ≡ outcomeNumber o
-taken (Datagram s l n) h = refl
-taken (Assigned n) h = refl
-taken (Requested n) h = refl
-taken (Advertised n) h = refl
-taken (Skipped n) h = refl
-taken (Refused r) h = absurd h
+-- src/lib.rt:83:46
+enum-told-2 : tie.Need-enum-told-2
+enum-told-2 c = search needs
 
--- >>>
+-- src/lib.rt:84:47
+enum-told-3 : tie.Need-enum-told-3
+enum-told-3 c = search needs
 
--- src/lib.rt:78:30
+-- src/lib.rt:85:48
+enum-told-4 : tie.Need-enum-told-4
+enum-told-4 c = search needs
+
+-- src/lib.rt:86:45
+enum-told-5 : tie.Need-enum-told-5
+enum-told-5 c = search needs
+
+-- src/lib.rt:87:30
 enum-known-self : tie.Need-enum-known-self
 enum-known-self c = search needs
 
--- src/lib.rt:78:38
+-- src/lib.rt:87:38
 number-requires : tie.Need-number-requires
 number-requires c κs = search needs
 
 -- src/lib.rt:74:5
 returns : tie.Need-returns
-returns c = c .number .ensures ∙ sym (ap outcomeNumber (c .before .before .self .given .1))
+returns c = search needs
 
 -- src/lib.rt:74:5
 returns-2 : tie.Need-returns-2
-returns-2 c = taken _ (c .match .keys2)
+returns-2 c = search needs
+
+-- src/lib.rt:74:5
+returns-3 : tie.Need-returns-3
+returns-3 c = search needs
+
+-- src/lib.rt:74:5
+returns-4 : tie.Need-returns-4
+returns-4 c = search needs
+
+-- src/lib.rt:74:5
+returns-5 : tie.Need-returns-5
+returns-5 c = search needs
+
+-- src/lib.rt:74:5
+returns-6 : tie.Need-returns-6
+returns-6 c = c .number .ensures ∙ sym (ap outcomeNumber (c .before .before .self .given .1))
 
 pub number-spec : {M : Type 1} → statement M
-number-spec = tie.close (tie.spec enum-known-self number-requires returns returns-2)
+number-spec =
+    tie.close
+    (tie.spec
+    enum-told
+    enum-told-2
+    enum-told-3
+    enum-told-4
+    enum-told-5
+    enum-known-self
+    number-requires
+    returns
+    returns-2
+    returns-3
+    returns-4
+    returns-5
+    returns-6)
