@@ -18,7 +18,10 @@ use Rattle.answer.proofs.Tests.{order}
 use Rattle.varint.specs.Numbers.{encode, encodedSize}
 use Rattle.varint.proofs.Encoding.{length-encode, size-one, size-two}
 use Rattle.lists.specs.declared.AddressEntry.{AddressEntry}
-use Rattle.lists.specs.Words.{entriesOf, rangesOf}
+use Rattle.lists.specs.declared.RouteRange.{RouteRange}
+use Rattle.lists.specs.Scan.{from}
+use Rattle.lists.specs.Words.{maxAddresses, maxRanges, countOf, entryAt, rangeAt, entriesOf, rangesOf}
+use Rattle.lists.proofs.ListScans.{entries-within, ranges-within}
 use Rattle.capsule.specs.Elements.{written}
 use Rattle.capsule.specs.Entries.{entryFormat, rangeFormat}
 use Rattle.capsule.specs.Capsules.{maxValue, frameBytes, capsuleBytes, datagram, assign, request, advertise}
@@ -57,6 +60,15 @@ pub written-same : (a b : Bool) (es : List AddressEntry) → written (entryForma
 written-same a b [] = refl
 written-same a b (e ∷ es) = rw (written-same a b es)
 
+-- the elements that the count says
+pub entries-frame : (kind : ℕ) (w : List ℕ) → countOf w ≤ maxAddresses
+    → frameBytes kind (written (entryFormat false) (from (entryAt w) 0 (countOf w))) ≡ frameBytes kind (written (entryFormat false) (entriesOf w))
+entries-frame kind w h = ap (λ (es : List AddressEntry). frameBytes kind (written (entryFormat false) es)) (sym (entries-within w h))
+
+pub ranges-frame : (kind : ℕ) (w : List ℕ) → countOf w ≤ maxRanges
+    → frameBytes kind (written rangeFormat (from (rangeAt w) 0 (countOf w))) ≡ frameBytes kind (written rangeFormat (rangesOf w))
+ranges-frame kind w h = ap (λ (rs : List RouteRange). frameBytes kind (written rangeFormat rs)) (sym (ranges-within w h))
+
 -- ---- what writing answers
 
 module _ {m : List ℕ} {v : Verdict} where
@@ -67,6 +79,10 @@ module _ {m : List ℕ} {v : Verdict} where
 
   pub refused : {a : List ℕ} {why : Refusal} → v ≡ Stop why → Writes v m a (Refused why) a
   refused g = record { answer = rw g; output = rw g }
+
+-- other words for the same message
+pub writes-as : {v : Verdict} {m n a b : List ℕ} {r : Answer} → m ≡ n → Writes v m a r b → Writes v n a r b
+writes-as e w = rw e at w
 
 module _ (v : List ℕ) (n : ℕ) where
   pub datagram-no-room : n < capsuleRoom → datagramVerdict v n ≡ Stop NoRoom

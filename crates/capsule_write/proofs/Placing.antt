@@ -27,8 +27,8 @@ put-then {m} {n} {a} {b} {c} {at} {r} {s} p q =
       place = omega (arith, length-append m n);
       front = q .front ∙ ap (λ (l : List ℕ). l ++ n) (p .front) ∙ append-assoc (take at a) m n;
       rest =
-        q .rest ∙ ap (λ (k : ℕ). drop k b) (q .place) ∙ sym (drop-drop (length n) r b) ∙ ap (drop (length n)) (p .rest)
-        ∙ drop-drop (length n) r a ∙ ap (λ (k : ℕ). drop k a) (sym (q .place));
+          q .rest ∙ ap (λ (k : ℕ). drop k b) (q .place) ∙ sym (drop-drop (length n) r b) ∙ ap (drop (length n)) (p .rest)
+          ∙ drop-drop (length n) r a ∙ ap (λ (k : ℕ). drop k a) (sym (q .place));
       kept = q .kept ∙ p .kept;
     }
 

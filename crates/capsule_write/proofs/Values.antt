@@ -11,9 +11,10 @@ use Rattle.varint.specs.Numbers.{limit}
 use Rattle.lists.specs.declared.AddressEntry.{AddressEntry}
 use Rattle.lists.specs.Scan.{from, allOf}
 use Rattle.lists.specs.Rules.{idOf, soundEntry}
-use Rattle.lists.specs.Words.{entryAt}
+use Rattle.lists.specs.Words.{countOf, entryAt, soundAddresses}
 use Rattle.lists.proofs.Scans.{from-more, from-end}
 use Rattle.lists.proofs.EntryRule.{entry-facts}
+use Rattle.lists.proofs.ListScans.{entries-within, addresses-facts}
 use Rattle.capsule.specs.Elements.{Format, written}
 use Rattle.capsule_write.specs.Places.{Put}
 use Rattle.capsule_write.proofs.Placing.{put-none, put-then}
@@ -100,3 +101,6 @@ sound-id w n i {e} s h q =
     let z : 0 + i ≡ i = omega arith in
     let a : soundEntry (entryAt w i) ≡ true = rw z at (all-at soundEntry (entryAt w) 0 n i s h) in
     entry-facts e (rw q a) .id
+
+pub sound-stored : (w : List ℕ) → soundAddresses w ≡ true → allOf soundEntry (from (entryAt w) 0 (countOf w)) ≡ true
+sound-stored w s = let f = addresses-facts w s in ap (allOf soundEntry) (sym (entries-within w (f .0))) ∙ f .1

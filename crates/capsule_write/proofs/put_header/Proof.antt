@@ -10,7 +10,7 @@ put-number-requires c κs = search needs
 
 put-number-requires-2 : tie.Need-put-number-requires-2
 put-number-requires-2 c κs =
-    omega (arith, encode-most (c .before .before .before .before .before .before .before .before .args .kind))
+    omega (arith, encode-most (c .before .before .before .before .before .before .args .kind))
 
 same-length : tie.Need-same-length
 same-length c = search needs

@@ -49,13 +49,12 @@ loop-less : tie.Need-loop-less Inv-loop μ-loop
 loop-less c = search needs
 
 loop-again : tie.Need-loop-again Inv-loop μ-loop
-loop-again c =
-    (
-      Judging.judge-next (c .before .before .before .before .before .before .loop .inv .0) (c .before .before .before .before .before .loop-test .taken) (c .before .before .before .before .range-at .ensures)
+loop-again c = (
+  Judging.judge-next (c .before .before .before .before .before .before .loop .inv .0) (c .before .before .before .before .before .loop-test .taken) (c .before .before .before .before .range-at .ensures)
       (called-true (c .before .before .before .range-sound .ensures) (c .before .before .if1 .left))
       (Judging.order-go _ (c .before .before .before .before .before .before .loop .inv .1) _ (called-true (c .before .in-order .ensures) (c .if2 .left))),
-      Judging.newest-earlier _ _ (c .before .before .before .before .range-at .ensures),
-    )
+  Judging.newest-earlier _ _ (c .before .before .before .before .range-at .ensures),
+)
 
 returns-3 : tie.Need-returns-3 Inv-loop μ-loop
 returns-3 c = Judging.judge-end (c .before .loop .inv .0) (c .loop-test .left)
