@@ -75,8 +75,16 @@ impl Outcome {
         ensures { λ r. ⌜ r ≡ outcomeNumber self ⌝ }
     {
         match self {
+            Outcome::Datagram {
+                start: _,
+                length: _,
+                next: _,
+            } => 0,
+            Outcome::Assigned { next: _ } => 0,
+            Outcome::Requested { next: _ } => 0,
+            Outcome::Advertised { next: _ } => 0,
+            Outcome::Skipped { next: _ } => 0,
             Outcome::Refused(why) => why.number(),
-            _ => 0,
         }
     }
 
