@@ -1,18 +1,124 @@
 // Capsules written to a lent output (RFC 9297, section 3.2; RFC 9484, section 4.7), all numbers in their shortest form.
 // Refused, in this order: an output under 4,104 bytes (16), a DATAGRAM value over the limit (2), the first fault of a list element by
 // element (3 before 6, 4 before 5), an empty request (6), a list over its limit (7). A refusal alters no byte.
+mod element;
+mod judge;
+mod list;
+mod place;
+
 use answer::Answer;
 use answer::Refusal;
 use answer::Verdict;
+use capsule::MAX_VALUE;
+use lists::ADDRESS_WORDS;
 use lists::AddressList;
+use lists::ROUTE_WORDS;
 use lists::RouteList;
 ghost use mathlib.Core.Path.{_≡_};
 ghost use mathlib.Core.Bool.{true, false};
+ghost use mathlib.Core.List.{_++_};
+ghost use Prim.Native.Nat.{_≤_, _<_};
 ghost use lib.ListN.{length};
 ghost use Rattle.answer.specs.Verdict.{Writes};
-ghost use Rattle.lists.specs.Words.{entriesOf, rangesOf};
-ghost use Rattle.capsule.specs.Capsules.{capsuleBytes, datagram, assign, request, advertise};
-ghost use Rattle.capsule_write.specs.Verdicts.{datagramVerdict, addressVerdict, routeVerdict};
+ghost use Rattle.varint.specs.Numbers.{encode};
+ghost use Rattle.lists.specs.Words.{entriesOf, rangesOf, soundAddresses, countOf, maxAddresses, maxRanges};
+ghost use Rattle.capsule.specs.Elements.{written};
+ghost use Rattle.capsule.specs.Entries.{entryFormat, rangeFormat};
+ghost use Rattle.capsule.specs.Capsules.{capsuleBytes, datagram, assign, request, advertise, frameBytes};
+ghost use Rattle.capsule_write.specs.Places.{Put};
+ghost use Rattle.capsule_write.specs.Verdicts.{capsuleRoom, datagramVerdict, addressVerdict, routeVerdict};
 
 // The least output that a capsule is written to.
 pub const CAPSULE_ROOM: usize = 4104;
+
+// A DATAGRAM with this value.
+pub fn write_datagram(value: &[u8], out: &mut [u8]) -> Answer
+    ensures { λ r. ⌜ Writes (datagramVerdict (now (value .entry)) (length (now (out .entry)))) (capsuleBytes (datagram (now (value .entry)))) (now (out .entry)) r (now (out .exit)) ⌝ }
+{
+    if out.len() < CAPSULE_ROOM {
+        return Answer::Refused(Refusal::NoRoom);
+    }
+    if MAX_VALUE < value.len() {
+        return Answer::Refused(Refusal::TooLong);
+    }
+    let start = put_header(out, 0, value.len());
+    let end = place::put_bytes(out, start, value);
+    Answer::Done(end)
+}
+
+// An ADDRESS_ASSIGN with these entries.
+pub fn write_assign(list: AddressList, out: &mut [u8]) -> Answer
+    ensures { λ r. ⌜ Writes (addressVerdict false (list .words) (length (now (out .entry)))) (capsuleBytes (assign (entriesOf (list .words)))) (now (out .entry)) r (now (out .exit)) ⌝ }
+{
+    let words = list.words;
+    write_addresses(1, false, &words, out)
+}
+
+// An ADDRESS_REQUEST with these entries.
+pub fn write_request(list: AddressList, out: &mut [u8]) -> Answer
+    ensures { λ r. ⌜ Writes (addressVerdict true (list .words) (length (now (out .entry)))) (capsuleBytes (request (entriesOf (list .words)))) (now (out .entry)) r (now (out .exit)) ⌝ }
+{
+    let words = list.words;
+    write_addresses(2, true, &words, out)
+}
+
+// A ROUTE_ADVERTISEMENT with these ranges.
+pub fn write_routes(list: RouteList, out: &mut [u8]) -> Answer
+    ensures { λ r. ⌜ Writes (routeVerdict (list .words) (length (now (out .entry)))) (capsuleBytes (advertise (rangesOf (list .words)))) (now (out .entry)) r (now (out .exit)) ⌝ }
+{
+    if out.len() < CAPSULE_ROOM {
+        return Answer::Refused(Refusal::NoRoom);
+    }
+    let words = list.words;
+    let verdict = judge::ranges_verdict(&words);
+    match verdict {
+        Verdict::Go => Answer::Done(put_routes(out, &words)),
+        Verdict::Stop(why) => Answer::Refused(why),
+    }
+}
+
+// The two kinds of capsule with address entries.
+fn write_addresses(kind: u64, request: bool, w: &[u64; ADDRESS_WORDS], out: &mut [u8]) -> Answer
+    requires { ⌜ kind ≤ 3 ⌝ }
+    ensures { λ r. ⌜ Writes (addressVerdict request (now (w .entry)) (length (now (out .entry)))) (frameBytes kind (written (entryFormat request) (entriesOf (now (w .entry))))) (now (out .entry)) r (now (out .exit)) ⌝ }
+{
+    if out.len() < CAPSULE_ROOM {
+        return Answer::Refused(Refusal::NoRoom);
+    }
+    let verdict = judge::entries_verdict(w, request);
+    match verdict {
+        Verdict::Go => Answer::Done(put_addresses(out, kind, w)),
+        Verdict::Stop(why) => Answer::Refused(why),
+    }
+}
+
+// Type and length, at the front of the output.
+fn put_header(out: &mut [u8], kind: u64, size: usize) -> usize
+    requires { ⌜ (kind ≤ 3) × (size ≤ 4096) × (capsuleRoom ≤ length (now out)) ⌝ }
+    ensures { λ r. ⌜ Put (encode kind ++ encode size) 0 (now (out .entry)) r (now (out .exit)) ⌝ }
+{
+    let length = place::put_number(out, 0, kind);
+    place::put_number(out, length, size as u64)
+}
+
+// A capsule of a sound list of entries.
+fn put_addresses(out: &mut [u8], kind: u64, w: &[u64; ADDRESS_WORDS]) -> usize
+    requires { ⌜ (kind ≤ 3) × (soundAddresses (now w) ≡ true) × (capsuleRoom ≤ length (now out)) ⌝ }
+    ensures { λ r. ⌜ Put (frameBytes kind (written (entryFormat false) (entriesOf (now (w .entry))))) 0 (now (out .entry)) r (now (out .exit)) ⌝ }
+{
+    let n = w[0] as usize;
+    let size = list::entries_size(w, n);
+    let start = put_header(out, kind, size);
+    list::put_entries(out, start, w, n)
+}
+
+// A capsule of a list of ranges within its limit.
+fn put_routes(out: &mut [u8], w: &[u64; ROUTE_WORDS]) -> usize
+    requires { ⌜ (countOf (now w) ≤ maxRanges) × (capsuleRoom ≤ length (now out)) ⌝ }
+    ensures { λ r. ⌜ Put (frameBytes 3 (written rangeFormat (rangesOf (now (w .entry))))) 0 (now (out .entry)) r (now (out .exit)) ⌝ }
+{
+    let n = w[0] as usize;
+    let size = list::ranges_size(w, n);
+    let start = put_header(out, 3, size);
+    list::put_ranges(out, start, w, n)
+}

@@ -1,0 +1,135 @@
+-- The bytes of a capsule part by part, how many they are, and what writing them answers. Assumes nothing.
+use Prim.Native.Nat.{ℕ, _+_, _*_, _<_, _≤_, _^_}
+use mathlib.Core.Bool.{Bool, true, false}
+use mathlib.Core.Path.{_≡_, refl, sym, ap, _∙_}
+use mathlib.Core.List.{List, [], _∷_, _++_, append-assoc}
+use mathlib.Core.Logic.{⊎-elim}
+use native.Mathlib.Omega.{arith}
+use borrow.Author.Tests.{lt-ltb, le-ltb}
+use lib.ListN.{length, length-append}
+use Rattle.answer.specs.declared.Answer.{Answer}
+use Rattle.answer.specs.declared.Answer.the-variants.{Done, Refused}
+use Rattle.answer.specs.declared.Refusal.{Refusal}
+use Rattle.answer.specs.declared.Refusal.the-variants.{NoRoom, TooLong}
+use Rattle.answer.specs.declared.Verdict.{Verdict}
+use Rattle.answer.specs.declared.Verdict.the-variants.{Go, Stop}
+use Rattle.answer.specs.Verdict.{Writes}
+use Rattle.answer.proofs.Tests.{order}
+use Rattle.varint.specs.Numbers.{encode, encodedSize}
+use Rattle.varint.proofs.Encoding.{length-encode, size-one, size-two}
+use Rattle.lists.specs.declared.AddressEntry.{AddressEntry}
+use Rattle.lists.specs.declared.RouteRange.{RouteRange}
+use Rattle.lists.specs.Scan.{from}
+use Rattle.lists.specs.Words.{maxAddresses, maxRanges, countOf, entryAt, rangeAt, entriesOf, rangesOf}
+use Rattle.lists.proofs.ListScans.{entries-within, ranges-within}
+use Rattle.capsule.specs.Elements.{written}
+use Rattle.capsule.specs.Entries.{entryFormat, rangeFormat}
+use Rattle.capsule.specs.Capsules.{maxValue, frameBytes, capsuleBytes, datagram, assign, request, advertise}
+use Rattle.capsule_write.specs.Places.{Put}
+use Rattle.capsule_write.specs.Verdicts.{capsuleRoom, datagramVerdict, entriesVerdict, rangesVerdict, addressVerdict, routeVerdict}
+use Rattle.capsule_write.proofs.Placing.{put-then, put-as, put-front}
+
+-- ---- the frame
+
+-- type and length take three bytes at most
+pub header-most : (kind size : ℕ) → kind ≤ 3 → size ≤ maxValue → length (encode kind ++ encode size) ≤ 3
+header-most kind size g h =
+    let a : encodedSize kind ≡ 1 = size-one kind (omega arith) in
+    let l = length-append (encode kind) (encode size) in
+    ⊎-elim (λ s. omega (arith, l, length-encode kind, length-encode size, size-one size s))
+    (λ s. omega (arith, l, length-encode kind, length-encode size, size-two size s (omega arith)))
+    (order size (2 ^ 6))
+
+pub put-frame : (kind : ℕ) {size : ℕ} {v a b d : List ℕ} {r s : ℕ} → size ≡ length v → Put (encode kind ++ encode size) 0 a r b
+    → Put v r b s d → Put (frameBytes kind v) 0 a s d
+put-frame kind {size} {v} e p q =
+    put-as (append-assoc (encode kind) (encode size) v ∙ ap (λ (n : ℕ). encode kind ++ (encode n ++ v)) e) (put-then p q)
+
+pub frame-most : (kind : ℕ) (v : List ℕ) → kind ≤ 3 → length v ≤ maxValue → length (frameBytes kind v) ≤ capsuleRoom
+frame-most kind v g h =
+    omega (
+      arith,
+      header-most kind (length v) g h,
+      length-append (encode kind) (encode (length v)),
+      length-append (encode kind) (encode (length v) ++ v),
+      length-append (encode (length v)) v,
+    )
+
+-- requests and assignments have the same bytes
+pub written-same : (a b : Bool) (es : List AddressEntry) → written (entryFormat a) es ≡ written (entryFormat b) es
+written-same a b [] = refl
+written-same a b (e ∷ es) = rw (written-same a b es)
+
+-- the elements that the count says
+pub entries-frame : (kind : ℕ) (w : List ℕ) → countOf w ≤ maxAddresses
+    → frameBytes kind (written (entryFormat false) (from (entryAt w) 0 (countOf w))) ≡ frameBytes kind (written (entryFormat false) (entriesOf w))
+entries-frame kind w h = ap (λ (es : List AddressEntry). frameBytes kind (written (entryFormat false) es)) (sym (entries-within w h))
+
+pub ranges-frame : (kind : ℕ) (w : List ℕ) → countOf w ≤ maxRanges
+    → frameBytes kind (written rangeFormat (from (rangeAt w) 0 (countOf w))) ≡ frameBytes kind (written rangeFormat (rangesOf w))
+ranges-frame kind w h = ap (λ (rs : List RouteRange). frameBytes kind (written rangeFormat rs)) (sym (ranges-within w h))
+
+-- ---- what writing answers
+
+module _ {m : List ℕ} {v : Verdict} where
+  pub wrote : {a b : List ℕ} {r : ℕ} → v ≡ Go → Put m 0 a r b → Writes v m a (Done r) b
+  wrote {a} {b} {r} g p =
+      let f = put-front p in
+      record { answer = rw (g, f .0); output = rw g (f .1) }
+
+  pub refused : {a : List ℕ} {why : Refusal} → v ≡ Stop why → Writes v m a (Refused why) a
+  refused g = record { answer = rw g; output = rw g }
+
+-- other words for the same message
+pub writes-as : {v : Verdict} {m n a b : List ℕ} {r : Answer} → m ≡ n → Writes v m a r b → Writes v n a r b
+writes-as e w = rw e at w
+
+module _ (v : List ℕ) (n : ℕ) where
+  pub datagram-no-room : n < capsuleRoom → datagramVerdict v n ≡ Stop NoRoom
+  unfolding datagramVerdict
+  datagram-no-room h = simp (lt-ltb _ _ h)
+
+  module _ (h : capsuleRoom ≤ n) where
+    pub datagram-too-long : maxValue < length v → datagramVerdict v n ≡ Stop TooLong
+    unfolding datagramVerdict
+    datagram-too-long g = simp (le-ltb _ _ h, lt-ltb _ _ g)
+
+    pub datagram-goes : length v ≤ maxValue → datagramVerdict v n ≡ Go
+    unfolding datagramVerdict
+    datagram-goes g = simp (le-ltb _ _ h, le-ltb _ _ g)
+
+module _ (asked : Bool) (w : List ℕ) (n : ℕ) where
+  pub address-no-room : n < capsuleRoom → addressVerdict asked w n ≡ Stop NoRoom
+  unfolding addressVerdict
+  address-no-room h = rw (lt-ltb n capsuleRoom h)
+
+  pub address-judged : capsuleRoom ≤ n → addressVerdict asked w n ≡ entriesVerdict asked w
+  unfolding addressVerdict
+  address-judged h = rw (le-ltb n capsuleRoom h)
+
+module _ (w : List ℕ) (n : ℕ) where
+  pub route-no-room : n < capsuleRoom → routeVerdict w n ≡ Stop NoRoom
+  unfolding routeVerdict
+  route-no-room h = rw (lt-ltb n capsuleRoom h)
+
+  pub route-judged : capsuleRoom ≤ n → routeVerdict w n ≡ rangesVerdict w
+  unfolding routeVerdict
+  route-judged h = rw (le-ltb n capsuleRoom h)
+
+-- ---- the capsules
+
+pub datagram-frame : (v : List ℕ) → frameBytes 0 v ≡ capsuleBytes (datagram v)
+unfolding capsuleBytes
+datagram-frame v = refl
+
+pub assign-frame : (w : List ℕ) → frameBytes 1 (written (entryFormat false) (entriesOf w)) ≡ capsuleBytes (assign (entriesOf w))
+unfolding capsuleBytes
+assign-frame w = refl
+
+pub request-frame : (w : List ℕ) → frameBytes 2 (written (entryFormat true) (entriesOf w)) ≡ capsuleBytes (request (entriesOf w))
+unfolding capsuleBytes
+request-frame w = refl
+
+pub advertise-frame : (w : List ℕ) → frameBytes 3 (written rangeFormat (rangesOf w)) ≡ capsuleBytes (advertise (rangesOf w))
+unfolding capsuleBytes
+advertise-frame w = refl

@@ -1,0 +1,6 @@
+pub mod Placing
+pub mod Judging
+pub mod Lengths
+pub mod Values
+pub mod Frames
+pub mod Accepted

@@ -1,0 +1,41 @@
+-- Each return is a case of the verdict; header and value one after the other are the capsule, and there is room for them.
+use native.Mathlib.Omega.{arith}
+use mathlib.Core.Path.{refl}
+use lib.ListN.{length}
+use Rattle.capsule_write.proofs.Placing.{put-as}
+use Rattle.capsule_write.proofs.Frames as Frames
+use borrow.Author.Needs.{needs}
+use Rattle.capsule_write.proofs.write_datagram.Statement.{statement}
+use Rattle.capsule_write.proofs.write_datagram.Tie as tie
+
+returns : tie.Need-returns
+returns c =
+    let a = c .before .before .before .args in
+    Frames.refused (Frames.datagram-no-room (a .value .now) (length (a .out .now)) (c .if1 .taken))
+
+returns-2 : tie.Need-returns-2
+returns-2 c =
+    let a = c .before .before .before .before .args in
+    Frames.refused (Frames.datagram-too-long (a .value .now) (length (a .out .now)) (c .before .if1 .left) (c .if2 .taken))
+
+put-header-requires : tie.Need-put-header-requires
+put-header-requires c κs = search needs
+
+put-bytes-requires : tie.Need-put-bytes-requires
+put-bytes-requires c κs =
+    let h = Frames.header-most 0 (length (c .before .before .before .before .before .before .before .before .before .args .value .now)) (omega arith) (omega arith) in
+    omega arith
+
+same-length : tie.Need-same-length
+same-length c = search needs
+
+returns-3 : tie.Need-returns-3
+returns-3 c =
+    let a = c .before .before .before .before .before .before .before .before .before .before .before .before .args in
+    Frames.wrote (Frames.datagram-goes (a .value .now) (length (a .out .now)) (c .before .before .before .before .before .before .before .before .before .if1 .left) (c .before .before .before .before .before .before .before .before .if2 .left))
+    (put-as (Frames.datagram-frame (a .value .now)) (Frames.put-frame 0 refl (c .before .before .before .before .before .before .put-header .ensures) (c .before .before .put-bytes .ensures)))
+
+pub write-datagram-spec : {M : Type 1} → statement M
+write-datagram-spec =
+    tie.close
+    (tie.spec returns returns-2 put-header-requires put-bytes-requires same-length returns-3)

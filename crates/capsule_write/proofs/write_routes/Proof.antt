@@ -1,0 +1,58 @@
+-- Each return is a case of the verdict; a `Go` says that the count is within its limit.
+use mathlib.Core.Path.{sym, _∙_}
+use lib.ListN.{length}
+use Rattle.capsule_write.proofs.Placing.{put-as}
+use Rattle.capsule_write.proofs.Frames as Frames
+use Rattle.capsule_write.proofs.Accepted.{ranges-go}
+use borrow.Author.Needs.{needs}
+use Rattle.capsule_write.proofs.write_routes.Statement.{statement}
+use Rattle.capsule_write.proofs.write_routes.Tie as tie
+
+returns : tie.Need-returns
+returns c =
+    let a = c .before .before .args in
+    Frames.refused (Frames.route-no-room (a .list .words) (length (a .out .now)) (c .if1 .taken))
+
+ranges-verdict-requires : tie.Need-ranges-verdict-requires
+ranges-verdict-requires c κs = search needs
+
+enum-told : tie.Need-enum-told
+enum-told c = search needs
+
+put-routes-requires : tie.Need-put-routes-requires
+put-routes-requires c κs =
+    let a = c .before .before .before .before .before .before .before .before .before .args in
+    let go = ranges-go (a .list .words) (sym (c .before .before .before .before .ranges-verdict .ensures) ∙ c .before .before .enum-told .given .1) in
+    (go .within, c .before .before .before .before .before .before .before .if1 .left)
+
+enum-known-verdict : tie.Need-enum-known-verdict
+enum-known-verdict c = search needs
+
+same-length : tie.Need-same-length
+same-length c = search needs
+
+returns-2 : tie.Need-returns-2
+returns-2 c =
+    let a = c .before .before .before .before .before .before .before .before .before .before .before .before .args in
+    Frames.wrote
+    (Frames.route-judged (a .list .words) (length (a .out .now)) (c .before .before .before .before .before .before .before .before .before .before .if1 .left) ∙ sym (c .before .before .before .before .before .before .before .ranges-verdict .ensures) ∙ c .before .before .before .before .before .enum-told .given .1)
+    (put-as (Frames.advertise-frame (a .list .words)) (c .before .before .put-routes .ensures))
+
+returns-3 : tie.Need-returns-3
+returns-3 c =
+    let a = c .before .before .before .before .before .before .before .before .args in
+    Frames.refused
+    (Frames.route-judged (a .list .words) (length (a .out .now)) (c .before .before .before .before .before .before .if1 .left) ∙ sym (c .before .before .before .ranges-verdict .ensures) ∙ c .before .verdict .given .1)
+
+pub write-routes-spec : {M : Type 1} → statement M
+write-routes-spec =
+    tie.close
+    (tie.spec
+    returns
+    ranges-verdict-requires
+    enum-told
+    put-routes-requires
+    enum-known-verdict
+    same-length
+    returns-2
+    returns-3)
