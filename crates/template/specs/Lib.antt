@@ -2,3 +2,4 @@ pub mod Pieces
 pub mod Fits
 pub mod Datagrams
 pub mod Sound
+pub mod Members

@@ -1,0 +1,4 @@
+pub mod PieceLaws
+pub mod RebuildLaws
+pub mod ChoiceLaws
+pub mod DatagramLaws
