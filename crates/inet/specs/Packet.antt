@@ -94,7 +94,7 @@ hopsOf p = getD p (hopPlace p) 0
 unfoldable pub put16 : List ℕ → ℕ → ℕ → List ℕ
 put16 l i v = set (set l i (v / 256)) (i + 1) (v % 256)
 
--- the hop count less one
+-- the hop count less one, in IPv4 and in IPv6
 abbrev pub hop4 : List ℕ → List ℕ
 hop4 p = set p 8 (getD p 8 0 - 1)
 
@@ -105,9 +105,16 @@ hop6 p = set p 7 (getD p 7 0 - 1)
 unfoldable pub headerCheck : List ℕ → ℕ
 headerCheck p = 65535 - fold (words (take (headerLength p) (put16 p 10 0)))
 
+-- IPv4: the hop count less one, and the header checksum made again
 unfoldable pub lowered4 : List ℕ → List ℕ
 lowered4 p = put16 (hop4 p) 10 (headerCheck (hop4 p))
 
--- the packet as it goes on: the hop count less one and, in IPv4, the header checksum made again
+-- the packet as it goes on: the hop count less one and, in IPv4, the header checksum made again; any other version is left as it is
 unfoldable pub lowered : List ℕ → List ℕ
 lowered p = pick (eqb (versionOf p) 4) (lowered4 p) (pick (eqb (versionOf p) 6) (hop6 p) p)
+
+-- what lowering a packet into an image asks: good form, a hop left, and room
+pub record Lowerable (p image : List ℕ) : Type 0 where
+  pub good : Form p
+  pub hops : 1 ≤ hopsOf p
+  pub room : length p ≤ length image

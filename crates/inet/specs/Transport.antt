@@ -1,5 +1,5 @@
 -- The checksum of what an IP packet carries, from `start` to its end, in the two bytes at `field`.
-use Prim.Native.Nat.{ℕ, _+_, _-_, _*_, _/_, _%_}
+use Prim.Native.Nat.{ℕ, _+_, _-_, _*_, _/_, _%_, _≤_}
 use mathlib.Core.Bool.{Bool, _&&_, not}
 use mathlib.Core.List.{List}
 use lib.ListN.{length, getD, take, drop}
@@ -7,6 +7,11 @@ use lib.Dec.{leb, eqb}
 use Rattle.answer.specs.Choice.{pick}
 use Rattle.inet.specs.Sum.{words, fold}
 use Rattle.inet.specs.Packet.{versionOf, protocolByte, put16}
+
+-- what sums from start to a packet's end ask: a packet no longer than IPv4 allows, and start in it
+pub record Within (start : ℕ) (p : List ℕ) : Type 0 where
+  pub short : length p ≤ 65535
+  pub inside : start ≤ length p
 
 -- the words of both addresses
 unfoldable pub addressWords : List ℕ → ℕ

@@ -3,7 +3,7 @@ ghost use mathlib.Core.Path.{_≡_};
 ghost use mathlib.Core.List.{_++_};
 ghost use Prim.Native.Nat.{_≤_, _<_, _+_};
 ghost use lib.ListN.{length, getD, drop};
-ghost use Rattle.inet.specs.Packet.{Form, Form4, hopsOf, lowered4, hop6, lowered};
+ghost use Rattle.inet.specs.Packet.{Form4, lowered4, hop6, lowered, Lowerable};
 use super::field::put_word;
 use super::packet::version;
 use super::sum::folded;
@@ -11,9 +11,7 @@ use super::sum::sum_words;
 
 // Copies the packet to the front of image, and lowers it there. The form tells where its hop count and its header are.
 pub fn lower_into(packet: &[u8], image: &mut [u8])
-    requires { ⌜ Form (now packet) ⌝ }
-    requires { ⌜ 1 ≤ hopsOf (now packet) ⌝ }
-    requires { ⌜ length (now packet) ≤ length (now image) ⌝ }
+    requires { ⌜ Lowerable (now packet) (now image) ⌝ }
     ensures { λ _. ⌜ now (image .exit) ≡ lowered (now (packet .entry)) ++ drop (length (now (packet .entry))) (now (image .entry)) ⌝ }
 {
     bytes::copy(packet, image);

@@ -1,9 +1,8 @@
 // The checksum of what an IP packet carries, from start to the packet's end.
 ghost use mathlib.Core.Path.{_≡_};
-ghost use Prim.Native.Nat.{_≤_, _<_, _+_};
-ghost use lib.ListN.{length};
+ghost use Prim.Native.Nat.{_≤_, _<_};
 ghost use Rattle.inet.specs.Packet.{Form};
-ghost use Rattle.inet.specs.Transport.{addressWords, seed, finish};
+ghost use Rattle.inet.specs.Transport.{Within, addressWords, seed, finish};
 use super::packet::protocol_byte;
 use super::packet::version;
 use super::sum::folded;
@@ -12,7 +11,7 @@ use super::sum::sum_words;
 // The folded sum of the pseudo-header. The form tells that both addresses are there.
 pub fn seed(packet: &[u8], start: usize) -> u64
     requires { ⌜ Form (now packet) ⌝ }
-    requires { ⌜ (length (now packet) ≤ 65535) × (start ≤ length (now packet)) ⌝ }
+    requires { ⌜ Within start (now packet) ⌝ }
     ensures { λ r. ⌜ (r ≡ seed start (now (packet .entry))) × (r ≤ 65535) ⌝ }
 {
     let addresses = address_words(packet);
@@ -33,7 +32,7 @@ fn address_words(packet: &[u8]) -> u64
 
 // The checksum of a packet that has the seed in its field: UDP sends a 0 as 65535. The packet may be of any form.
 pub fn finish(packet: &[u8], start: usize) -> u64
-    requires { ⌜ (length (now packet) ≤ 65535) × (start ≤ length (now packet)) ⌝ }
+    requires { ⌜ Within start (now packet) ⌝ }
     ensures { λ r. ⌜ (r ≡ finish start (now (packet .entry))) × (r ≤ 65535) ⌝ }
 {
     let sum = 65535 - folded(sum_words(&packet[start..]));

@@ -12,8 +12,11 @@ use Rattle.inet.proofs.lower.lower4.Tie as tie
 long : (c : tie.After-put-word) → length (c .put-word .last .0) ≡ length (c .before .before .before .before .before .args .p .now)
 long c = omega (arith, simp length-set at (c .put-word .kept .0))
 
+-- the four steps
 done : (c : tie.After-slice-known5) → c .before .before .put-word2 .last .0 ≡ lowered4 (c .before .before .before .before .before .before .before .before .before .before .before .before .before .before .args .p .now)
-done c = lower4-steps _ _ _ _ _ (c .before .before .before .before .before .before .before .before .before .put-word .ensures) (c .before .before .before .before .before .sum-words .ensures .0) (c .before .before .before .folded .ensures .0) (c .before .before .put-word2 .ensures)
+done c =
+    lower4-steps _ _ _ _ _ (c .before .before .before .before .before .before .before .before .before .put-word .ensures) (c .before .before .before .before .before .sum-words .ensures .0)
+    (c .before .before .before .folded .ensures .0) (c .before .before .put-word2 .ensures)
 
 slice-read-n : tie.Need-slice-read-n
 slice-read-n c = search needs

@@ -20,7 +20,9 @@ slice-aggregate-lower4 : tie.Need-slice-aggregate-lower4
 slice-aggregate-lower4 c = simp length-take (omega (arith, c .before .before .before .before .before .copy .kept .1 .0))
 
 lower4-requires : tie.Need-lower4-requires
-lower4-requires c κs = front-4 (c .before .before .before .before .before .before .before .before .before .args .packet .now) _ _ (c .before .before .before .before .before .copy .ensures .1) (c .before .before .before .before .before .before .before .before .before .pre .0) (c .before .before .before .before .before .before .before .before .before .pre .1 .0) (omega arith)
+lower4-requires c κs =
+    let s = c .before .before .before .before .before .before .before .before .before in
+    front-4 (s .args .packet .now) _ _ (c .before .before .before .before .before .copy .ensures .1) (s .pre .good) (s .pre .hops) (omega arith)
 
 slice-relend-prefix-lower6 : tie.Need-slice-relend-prefix-lower6
 slice-relend-prefix-lower6 c = search needs
@@ -29,19 +31,26 @@ slice-aggregate-lower6 : tie.Need-slice-aggregate-lower6
 slice-aggregate-lower6 c = simp length-take (omega (arith, c .before .before .before .before .before .copy .kept .1 .0))
 
 lower6-requires : tie.Need-lower6-requires
-lower6-requires c κs = front-6 (c .before .before .before .before .before .before .before .before .before .args .packet .now) _ _ (c .before .before .before .before .before .copy .ensures .1) (c .before .before .before .before .before .before .before .before .before .pre .0) (c .before .before .before .before .before .before .before .before .before .pre .1 .0) (λ e. omega arith)
+lower6-requires c κs =
+    let s = c .before .before .before .before .before .before .before .before .before in
+    front-6 (s .args .packet .now) _ _ (c .before .before .before .before .before .copy .ensures .1) (s .pre .good) (s .pre .hops) (λ e. omega arith)
 
 same-length : tie.Need-same-length
 same-length c = search needs
 
 returns : tie.Need-returns
-returns c = lower-steps-4 (c .before .before .before .before .before .before .before .before .before .before .before .before .args .packet .now) _ _ (c .before .before .before .before .before .before .before .before .copy .ensures .1) _ (omega arith) (c .before .before .lower4 .ensures)
+returns c =
+    let s = c .before .before .before .before .before .before .before .before .before .before .before .before in
+    lower-steps-4 (s .args .packet .now) _ _ (c .before .before .before .before .before .before .before .before .copy .ensures .1) _ (omega arith) (c .before .before .lower4 .ensures)
 
 same-length-2 : tie.Need-same-length-2
 same-length-2 c = search needs
 
 returns-2 : tie.Need-returns-2
-returns-2 c = lower-steps-6 (c .before .before .before .before .before .before .before .before .before .before .before .before .args .packet .now) _ _ (c .before .before .before .before .before .before .before .before .copy .ensures .1) _ (is-form6 _ (c .before .before .before .before .before .before .before .before .before .before .before .before .pre .0) (λ e. omega arith) .six) (c .before .before .lower6 .ensures)
+returns-2 c =
+    let s = c .before .before .before .before .before .before .before .before .before .before .before .before in
+    let f = is-form6 _ (s .pre .good) (λ e. omega arith) in
+    lower-steps-6 (s .args .packet .now) _ _ (c .before .before .before .before .before .before .before .before .copy .ensures .1) _ (f .six) (c .before .before .lower6 .ensures)
 
 pub lower-into-spec : {M : Type 1} → statement M
 lower-into-spec =
