@@ -3,3 +3,4 @@ pub mod Fits
 pub mod Datagrams
 pub mod Sound
 pub mod Members
+pub mod Usable
