@@ -78,6 +78,19 @@ pub record Rebuildable (t : Template) (v : List ℕ) : Type 0 where
   pub reach : reaches (shapeOf t) v ≡ true
   pub small : staticSize (piecesOf t) + length v ≤ maxPacket
 
+-- the bytes reach the last segment's end, and there is room for the packet
+pub record Weavable (t : Template) (v out : List ℕ) : Type 0 where
+  pub usable : UsableTemplate t
+  pub reach : lastEnd 0 (piecesOf t) ≤ staticSize (piecesOf t) + length v
+  pub room : staticSize (piecesOf t) + length v ≤ length out
+
+-- the field lies in the first n bytes, behind the start
+pub record Completable (field start n : ℕ) (image : List ℕ) : Type 0 where
+  pub order : start ≤ field
+  pub inside : field + 2 ≤ n
+  pub room : n ≤ length image
+  pub small : n ≤ 65535
+
 -- the packet q at the front of an image
 pub record Begins (q image : List ℕ) (r : ℕ) : Type 0 where
   pub size : r ≡ length q

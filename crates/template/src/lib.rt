@@ -6,6 +6,9 @@ pub mod search; // search.rt: the template that fits, and the template of a Cont
 pub mod checksum; // checksum.rt: whether a packet's checksum is the right one
 pub mod body; // body.rt: the bytes outside the segments, and the packet rebuilt
 
+// The most bytes of a packet.
+pub const MAX_PACKET: usize = 1500;
+
 // The place of a template in a plan.
 pub enum Found {
     At(usize),
