@@ -6,5 +6,6 @@ pub mod Writing
 pub mod Sizes
 pub mod Shortening
 pub mod Weaving
+pub mod Completing
 pub mod ChoiceLaws
 pub mod DatagramLaws

@@ -93,8 +93,8 @@ module _ (t : Template) (v out₀ : List ℕ) (ready : Weavable t v out₀) wher
           reach = rw q (omega (arith, i .reach, g .enough, g .upward));
           total = rw q (omega (arith, i .total, g .enough, g .upward));
           front =
-            rw (wrote-take w₂ k₂, f₁, q, d₁, d₂, append-assoc, append-assoc, ← window-take (t .bytes) o m image, ← drop-drop (o - pos) at v, ← weave-step t j (t .count) h pos (drop at v))
-            (i .front);
+              rw (wrote-take w₂ k₂, f₁, q, d₁, d₂, append-assoc, append-assoc, ← window-take (t .bytes) o m image, ← drop-drop (o - pos) at v, ← weave-step t j (t .count) h pos (drop at v))
+              (i .front);
         }
 
     pub last-room : t .count ≤ j → pos + (length v - at) ≤ length out

@@ -8,10 +8,10 @@ ghost use Rattle.template.specs.Pieces.{strip, weave, staticSize, lastEn
 ghost use Rattle.template.specs.Datagrams.{rebuilt, reaches};
 ghost use Rattle.template.specs.Usable.{UsableTemplate, piecesOf, Wrote, Shortenable, Rebuildable, Weavable, Completable, Begins};
 ghost use Rattle.inet.specs.Transport.{setField, finish};
+use super::MAX_PACKET;
 use inet::field::put_word;
 use inet::transport::finish;
 use plan::Template;
-use super::MAX_PACKET;
 
 // Writes the image's bytes outside the segments to out from the place at on, and returns the place behind them.
 pub fn shorten(t: Template, image: &[u8], out: &mut [u8], at: usize) -> usize

@@ -6,47 +6,34 @@ use Rattle.template.proofs.Writing.{copied}
 use borrow.Author.Needs.{needs}
 use Rattle.template.proofs.body.copy_range.Statement.{statement}
 use Rattle.template.proofs.body.copy_range.Tie as tie
-use Rattle.template.proofs.body.copy_range.Reads as reads
-use Rattle.template.proofs.body.copy_range.Lts as lts
-use Rattle.bytes.proofs.copy.Reads as copy-reads
 
--- src/body.rt:40:25
 sub-copy : tie.Need-sub-copy
 sub-copy c = search needs
 
--- src/body.rt:40:25
 part-copy-start : tie.Need-part-copy-start
 part-copy-start c = search needs
 
--- src/body.rt:40:25
 part-copy-end : tie.Need-part-copy-end
 part-copy-end c = search needs
 
--- src/body.rt:40:41
 sub-copy-2 : tie.Need-sub-copy-2
 sub-copy-2 c = search needs
 
--- src/body.rt:40:41
 part-copy-start-2 : tie.Need-part-copy-start-2
 part-copy-start-2 c = search needs
 
--- src/body.rt:40:41
 part-copy-end-2 : tie.Need-part-copy-end-2
 part-copy-end-2 c = search needs
 
--- src/body.rt:40:9
 copy-requires : tie.Need-copy-requires
 copy-requires c κs = search needs
 
--- src/body.rt:41:5
 add-result : tie.Need-add-result
 add-result c = search needs
 
--- src/body.rt:36:1
 same-length : tie.Need-same-length
 same-length c = search needs
 
--- src/body.rt:36:1
 returns : tie.Need-returns
 returns c =
     let s = c .before .before .before .before .before .before .before in

@@ -6,30 +6,22 @@ use Rattle.template.proofs.Sizes.{last-end, last-none}
 use borrow.Author.Needs.{needs}
 use Rattle.template.proofs.body.last_end.Statement.{statement}
 use Rattle.template.proofs.body.last_end.Tie as tie
-use Rattle.template.proofs.body.last_end.Reads as reads
-use Rattle.template.proofs.body.last_end.Lts as lts
 
--- src/body.rt:90:9
 returns : tie.Need-returns
 returns c = sym (last-none (c .before .args .t1) _ refl (c .if1 .taken))
 
--- src/body.rt:92:24
 sub-s : tie.Need-sub-s
 sub-s c = search needs
 
--- src/body.rt:92:13
 mul-s : tie.Need-mul-s
 mul-s c = search needs
 
--- src/body.rt:92:13
 element-copy-out-s : tie.Need-element-copy-out-s
 element-copy-out-s c = search needs
 
--- src/body.rt:93:5
 add-result : tie.Need-add-result
 add-result c = omega (arith, c .before .before .before .pre .within (c .before .before .before .args .t1 .count - 1) (omega arith))
 
--- src/body.rt:84:1
 returns-2 : tie.Need-returns-2
 returns-2 c = sym (last-end (c .before .before .before .args .t1) _ refl (omega arith))
 

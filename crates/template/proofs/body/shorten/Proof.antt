@@ -7,12 +7,8 @@ use Rattle.plan.specs.Shapes.{segmentAt}
 use Rattle.template.specs.Usable.{Shortenable}
 use Rattle.template.proofs.Steps.{segmentEnd}
 use Rattle.template.proofs.Shortening.{Shortening, shortening-none, next-up, next-inside, shortening-more, shortening-done}
-use borrow.Author.Needs.{needs}
 use Rattle.template.proofs.body.shorten.Statement.{statement}
 use Rattle.template.proofs.body.shorten.Tie as tie
-use Rattle.template.proofs.body.shorten.Reads as reads
-use Rattle.template.proofs.body.shorten.Lts as lts
-use Rattle.template.proofs.body.copy_range.Reads as copy-range-reads
 
 abbrev Inv-loop : tie.InvT-loop
 Inv-loop image out₀ at t n pos₀ next₀ j₀ out pos next j = Shortening t image out₀ at out pos next j
@@ -33,49 +29,38 @@ upward c = next-up _ _ _ _ (Ready c) (c .before .loop .inv) (c .loop-test .taken
 inward : (c : InLoop) → segmentEnd (c .before .before .before .before .args .t1) (c .before .loop .j) ≤ length (c .before .before .before .before .args .image .now)
 inward c = next-inside _ _ _ _ (Ready c) (c .before .loop .inv) (c .loop-test .taken)
 
--- src/body.rt:25:5
 loop-holds : tie.Need-loop-holds Inv-loop μ-loop
 loop-holds c = shortening-none _ _ _ _ (c .before .before .pre)
 
--- src/body.rt:26:17
 mul-s : tie.Need-mul-s Inv-loop μ-loop
 mul-s c = omega (arith, c .before .before .before .before .pre .usable .few)
 
--- src/body.rt:26:17
 element-copy-out-s : tie.Need-element-copy-out-s Inv-loop μ-loop
 element-copy-out-s c = omega (arith, c .before .before .before .before .pre .usable .few)
 
--- src/body.rt:28:9
 copy-range-requires : tie.Need-copy-range-requires Inv-loop μ-loop
 copy-range-requires c κs = let a : InLoop = c .before .before in (upward a, omega (arith, inward a), omega (arith, upward a, inward a, Ready a .room))
 
--- src/body.rt:29:15
 add-pos : tie.Need-add-pos Inv-loop μ-loop
 add-pos c = omega (arith, c .before .before .before .before .before .before .before .before .before .before .pre .usable .within (c .before .before .before .before .before .before .before .loop .j) (c .before .before .before .before .before .before .loop-test .taken))
 
--- src/body.rt:30:9
 add-j : tie.Need-add-j Inv-loop μ-loop
 add-j c = omega (arith, c .before .before .before .before .before .before .before .before .before .before .pre .usable .few)
 
--- src/body.rt:25:5
 loop-less : tie.Need-loop-less Inv-loop μ-loop
 loop-less c = omega arith
 
--- src/body.rt:25:5
 loop-again : tie.Need-loop-again Inv-loop μ-loop
 loop-again c =
     let a : InLoop = c .before .before .before .before .before .before in
     shortening-more _ _ _ _ (Ready a) (a .before .loop .inv) (a .loop-test .taken) (c .before .before .before .copy-range .ensures) (c .before .before .before .copy-range .kept .1 .1 .1 .0)
 
--- src/body.rt:32:5
 copy-range-requires-2 : tie.Need-copy-range-requires-2 Inv-loop μ-loop
 copy-range-requires-2 c κs = omega (arith, c .before .before .before .before .before .pre .room)
 
--- src/body.rt:17:1
 same-length : tie.Need-same-length Inv-loop μ-loop
 same-length c = c .before .before .copy-range2 .kept .1 .1 .1 .0 ∙ c .before .before .before .before .before .loop .inv .same
 
--- src/body.rt:17:1
 returns : tie.Need-returns Inv-loop μ-loop
 returns c = shortening-done _ _ _ _ (c .before .before .before .before .before .before .before .before .pre) (c .before .before .before .before .before .loop .inv) (c .before .before .before .before .loop-test .left) (c .before .before .copy-range2 .ensures) (c .before .before .copy-range2 .kept .1 .1 .1 .0)
 

@@ -7,11 +7,8 @@ use Rattle.template.specs.Pieces.{staticSize}
 use Rattle.template.specs.Usable.{piecesOf}
 use Rattle.template.proofs.Steps.{piecesFrom, pieces-all}
 use Rattle.template.proofs.Sizes.{static-limit, static-step, static-done}
-use borrow.Author.Needs.{needs}
 use Rattle.template.proofs.body.static_size.Statement.{statement}
 use Rattle.template.proofs.body.static_size.Tie as tie
-use Rattle.template.proofs.body.static_size.Reads as reads
-use Rattle.template.proofs.body.static_size.Lts as lts
 
 abbrev Inv-loop : tie.InvT-loop
 Inv-loop t n size₀ j₀ size j = (j ≤ n) × (size + staticSize (piecesFrom t j (n - j)) ≡ staticSize (piecesOf t))
@@ -19,35 +16,27 @@ Inv-loop t n size₀ j₀ size j = (j ≤ n) × (size + staticSize (piecesFrom t
 abbrev μ-loop : tie.MeasureT-loop
 μ-loop t n size₀ j₀ size j = n - j
 
--- src/body.rt:75:5
 loop-holds : tie.Need-loop-holds Inv-loop μ-loop
 loop-holds c = (omega arith, omega (arith, ap staticSize (pieces-all (c .args .t1))))
 
--- src/body.rt:76:17
 mul-s : tie.Need-mul-s Inv-loop μ-loop
 mul-s c = omega (arith, c .before .before .pre .few)
 
--- src/body.rt:76:17
 element-copy-out-s : tie.Need-element-copy-out-s Inv-loop μ-loop
 element-copy-out-s c = omega (arith, c .before .before .pre .few)
 
--- src/body.rt:77:9
 add-size : tie.Need-add-size Inv-loop μ-loop
 add-size c = omega (arith, static-limit _ (c .before .before .before .before .pre), static-step (c .before .before .before .before .args .t1) (c .before .before .before .loop .j) _ (c .before .before .loop-test .taken))
 
--- src/body.rt:78:9
 add-j : tie.Need-add-j Inv-loop μ-loop
 add-j c = omega (arith, c .before .before .before .before .pre .few)
 
--- src/body.rt:75:5
 loop-less : tie.Need-loop-less Inv-loop μ-loop
 loop-less c = omega arith
 
--- src/body.rt:75:5
 loop-again : tie.Need-loop-again Inv-loop μ-loop
 loop-again c = (omega arith, omega (arith, static-step (c .before .before .before .before .args .t1) (c .before .before .before .loop .j) _ (c .before .before .loop-test .taken)))
 
--- src/body.rt:68:1
 returns : tie.Need-returns Inv-loop μ-loop
 returns c = let e = static-done (c .before .before .args .t1) (c .before .loop .j) _ (c .loop-test .left) in (omega arith, omega (arith, static-limit _ (c .before .before .pre)))
 

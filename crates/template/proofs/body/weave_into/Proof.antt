@@ -12,9 +12,6 @@ use Rattle.template.proofs.Weaving.{Weaving, Ready, weaving-none, weavi
 use borrow.Author.Needs.{needs}
 use Rattle.template.proofs.body.weave_into.Statement.{statement}
 use Rattle.template.proofs.body.weave_into.Tie as tie
-use Rattle.template.proofs.body.weave_into.Reads as reads
-use Rattle.template.proofs.body.weave_into.Lts as lts
-use Rattle.template.proofs.body.copy_range.Reads as copy-range-reads
 
 abbrev Inv-loop : tie.InvT-loop
 Inv-loop body image₀ t n fixed pos₀ at₀ j₀ image pos at j = Weaving t body image₀ image pos at j
@@ -40,51 +37,39 @@ within c = c .before .before .before .before .before .pre .usable .within (J c) 
 image-long : (c : tie.Start Inv-loop μ-loop) → length (c .args .t1 .bytes) ≡ 128
 image-long c = search needs
 
--- src/body.rt:127:5
 loop-holds : tie.Need-loop-holds Inv-loop μ-loop
 loop-holds c = weaving-none _ _ _ (c .before .before .before .pre)
 
--- src/body.rt:128:17
 mul-s : tie.Need-mul-s Inv-loop μ-loop
 mul-s c = omega (arith, c .before .before .before .before .before .pre .usable .few)
 
--- src/body.rt:128:17
 element-copy-out-s : tie.Need-element-copy-out-s Inv-loop μ-loop
 element-copy-out-s c = omega (arith, c .before .before .before .before .before .pre .usable .few)
 
--- src/body.rt:130:19
 add-end : tie.Need-add-end Inv-loop μ-loop
 add-end c = omega (arith, within (c .before .before))
 
--- src/body.rt:131:24
 sub-to : tie.Need-sub-to Inv-loop μ-loop
 sub-to c = ready (c .before .before) .upward
 
--- src/body.rt:131:18
 add-to : tie.Need-add-to Inv-loop μ-loop
 add-to c = omega (arith, ready (c .before .before) .enough)
 
--- src/body.rt:132:9
 copy-range-requires : tie.Need-copy-range-requires Inv-loop μ-loop
 copy-range-requires c κs = let g = ready (c .before .before .before) in omega (arith, g .upward, g .enough, g .room)
 
--- src/body.rt:133:26
 slice-aggregate-copy-range : tie.Need-slice-aggregate-copy-range Inv-loop μ-loop
 slice-aggregate-copy-range c = sym (image-long (c .before .before .before .before .before .before .before .before .before .before .before .before))
 
--- src/body.rt:133:9
 copy-range-requires-2 : tie.Need-copy-range-requires-2 Inv-loop μ-loop
 copy-range-requires-2 c κs = let g = ready (c .before .before .before .before .before .before .before .before) in omega (arith, g .room, c .before .before .before .before .copy-range .kept .1 .1 .1 .0, within (c .before .before .before .before .before .before .before .before), image-long (c .before .before .before .before .before .before .before .before .before .before .before .before .before))
 
--- src/body.rt:135:9
 add-j : tie.Need-add-j Inv-loop μ-loop
 add-j c = omega (arith, c .before .before .before .before .before .before .before .before .before .before .before .before .before .before .before .before .pre .usable .few, c .before .before .before .before .before .before .before .before .before .before .before .loop-test .taken)
 
--- src/body.rt:127:5
 loop-less : tie.Need-loop-less Inv-loop μ-loop
 loop-less c = omega arith
 
--- src/body.rt:127:5
 loop-again : tie.Need-loop-again Inv-loop μ-loop
 loop-again c =
     let a : InLoop = c .before .before .before .before .before .before .before .before .before .before .before in
@@ -93,15 +78,12 @@ loop-again c =
     let k₂ = c .before .before in
     weaving-more _ _ _ (a .before .before .before .before .before .pre) (a .before .loop .inv) (a .loop-test .taken) im (k₁ .copy-range .ensures) (k₁ .copy-range .kept .1 .1 .1 .0) (k₂ .copy-range2 .ensures) (k₂ .copy-range2 .kept .1 .1 .1 .0)
 
--- src/body.rt:137:5
 copy-range-requires-3 : tie.Need-copy-range-requires-3 Inv-loop μ-loop
 copy-range-requires-3 c κs = omega (arith, last-room _ _ _ (c .before .before .before .before .before .before .pre) (c .before .before .loop .inv) (c .before .loop-test .left))
 
--- src/body.rt:118:1
 same-length : tie.Need-same-length Inv-loop μ-loop
 same-length c = c .before .before .copy-range3 .kept .1 .1 .1 .0 ∙ c .before .before .before .before .before .loop .inv .same
 
--- src/body.rt:118:1
 returns : tie.Need-returns Inv-loop μ-loop
 returns c = weaving-done _ _ _ (c .before .before .before .before .before .before .before .before .before .pre) (c .before .before .before .before .before .loop .inv) (c .before .before .before .before .loop-test .left) (c .before .before .copy-range3 .ensures)
 
