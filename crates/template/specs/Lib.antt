@@ -4,3 +4,4 @@ pub mod Datagrams
 pub mod Sound
 pub mod Members
 pub mod Usable
+pub mod Examples
