@@ -1,0 +1,60 @@
+-- The packet that `rebuild` leaves at the front of its image. Assumes nothing.
+use Prim.Native.Nat.{ℕ, suc, _+_, _-_, _≤_, _<_}
+use mathlib.Core.Path.{_≡_, refl, ap, sym, _∙_}
+use mathlib.Core.List.{List}
+use mathlib.Core.Bool.{Bool, true, false}
+use native.Mathlib.Omega.{arith}
+use lib.ListN.{length, take}
+use Rattle.inet.specs.Transport.{setField, finish}
+use Rattle.inet.proofs.FieldLaws.{put-take, setField-length}
+use Rattle.plan.specs.declared.Template.{Template}
+use Rattle.plan.specs.Shapes.{shapeOf}
+use Rattle.template.specs.Pieces.{staticSize, weave}
+use Rattle.template.specs.Datagrams.{rebuilt, reaches}
+use Rattle.template.specs.Usable.{UsableTemplate, piecesOf, Rebuildable, Weavable, Completable, Begins}
+use Rattle.template.proofs.PieceLaws.{length-weave}
+use Rattle.template.proofs.Steps.{sum-facts}
+use Rattle.template.proofs.Sizes.{reaches-end, reaches-field}
+
+module _ (t : Template) (v : List ℕ) where
+  rebuilt-plain : t .checksum ≡ false → rebuilt (shapeOf t) v ≡ weave 0 (piecesOf t) v
+  unfolding rebuilt shapeOf
+  rebuilt-plain e = rw e
+
+  rebuilt-sum : t .checksum ≡ true → rebuilt (shapeOf t) v ≡ setField (t .field) (finish (t .start) (weave 0 (piecesOf t) v)) (weave 0 (piecesOf t) v)
+  unfolding rebuilt shapeOf
+  rebuilt-sum e = rw e
+
+module _ (t : Template) (v : List ℕ) (ready : Rebuildable t v) where
+  pub weavable : (out : List ℕ) → 1500 ≤ length out → Weavable t v out
+  weavable out h = record { usable = ready .usable; reach = reaches-end t v (ready .reach); room = omega (arith, ready .small) }
+
+  module _ {out : List ℕ} {r : ℕ} (b : Begins (weave 0 (piecesOf t) v) out r) where
+    size : r ≡ staticSize (piecesOf t) + length v
+    size = b .size ∙ length-weave (piecesOf t) 0 v
+
+    pub completable : 1500 ≤ length out → t .checksum ≡ true → Completable (t .field) (t .start) r out
+    completable h e =
+        record {
+          order = sum-facts t (ready .usable .sound) e .order;
+          inside = omega (arith, size, reaches-field t v (ready .reach) e);
+          room = omega (arith, size, ready .small);
+          small = omega (arith, size, ready .small);
+        }
+
+    -- without a checksum
+    pub begins-plain : t .checksum ≡ false → Begins (rebuilt (shapeOf t) v) out r
+    begins-plain e = rw (rebuilt-plain t v e) b
+
+    -- with one
+    pub begins-sum : {out′ : List ℕ} → t .checksum ≡ true → out′ ≡ setField (t .field) (finish (t .start) (take r out)) out → Begins (rebuilt (shapeOf t) v) out′ r
+    begins-sum {out′} e q =
+        let w = weave 0 (piecesOf t) v in
+        let l : t .field + 1 < r = omega (arith, size, reaches-field t v (ready .reach) e) in
+        let s : rebuilt (shapeOf t) v ≡ setField (t .field) (finish (t .start) w) w = rebuilt-sum t v e in
+        record {
+          size = b .size ∙ sym (ap length s ∙ setField-length (t .field) (finish (t .start) w) w);
+          front =
+              ap (take r) q ∙ put-take out (t .field) (finish (t .start) (take r out)) r l
+              ∙ ap (λ (x : List ℕ). setField (t .field) (finish (t .start) x) x) (b .front) ∙ sym s;
+        }

@@ -1,0 +1,77 @@
+-- What the code adds up for the right checksum of a packet, and its three ends. Assumes nothing.
+use Prim.Native.Nat.{ℕ, zero, suc, _+_, _-_, _*_, _/_, _%_, _≤_, _<_}
+use mathlib.Core.Path.{_≡_, refl, ap, sym, _∙_}
+use mathlib.Core.List.{List, [], _∷_}
+use mathlib.Core.Bool.{Bool, true, false}
+use native.Mathlib.Omega.{arith}
+use native.Mathlib.Numerals.{add-one}
+use lib.ListN.{length, getD, take, drop, set, length-drop}
+use lib.Seq.{getD-drop}
+use lib.Dec.{leb}
+use borrow.Author.Tests.{le-leb, lt-leb}
+use Rattle.octets.proofs.Parts.{tail}
+use Rattle.inet.specs.Sum.{words, fold}
+use Rattle.inet.specs.Packet.{protocolByte, put16}
+use Rattle.inet.specs.Transport.{seed, setField, sent, finish, completion, fieldIs}
+use Rattle.inet.proofs.FieldLaws.{words-put, drop-put-from}
+use Rattle.inet.proofs.TransportLaws.{sent-udp, sent-other, sent-nonzero, setField-protocolByte}
+use Rattle.plan.specs.Shapes.{sumAt}
+use Rattle.template.specs.Fits.{fitsSum}
+use Rattle.template.specs.Usable.{SumPlace}
+
+less-suc : (l : List ℕ) (i : ℕ) → i % 2 ≡ 0 → suc i < length l → words l ≡ words (set (set l i 0) (suc i) 0) + (getD l i 0 * 256 + getD l (suc i) 0)
+unfolding words
+less-suc [] i e h = omega arith
+less-suc (a ∷ []) i e h = omega arith
+less-suc (a ∷ b ∷ r) zero e h = omega arith
+less-suc (a ∷ b ∷ r) (suc zero) e h = omega arith
+less-suc (a ∷ b ∷ r) (suc (suc i)) e h = omega (arith, less-suc r i (omega arith) (omega arith))
+
+-- the words of a list count the word at an even place
+words-less : (l : List ℕ) (i : ℕ) → i % 2 ≡ 0 → i + 1 < length l → words l ≡ words (put16 l i 0) + (getD l i 0 * 256 + getD l (i + 1) 0)
+unfolding put16
+words-less l i e h = rw add-one (less-suc l i e (omega arith))
+
+pub record Summed (p : List ℕ) (field start first own all : ℕ) : Type 0 where
+  pub counted : own ≤ all
+  pub same : words (drop start (setField field (seed start p) p)) ≡ all - own + first
+
+-- the words from start on, with the seed in place of what stands in the field
+pub summed : (p : List ℕ) (field start : ℕ) → SumPlace field start → field + 2 ≤ length p → {first hi lo own all : ℕ} → first ≡ seed start p
+    → hi ≡ getD p field 0 → lo ≡ getD p (field + 1) 0 → own ≡ hi * 256 + lo → all ≡ words (take (length p - start) (drop start p))
+    → Summed p field start first own all
+summed p field start place room {first} {hi} {lo} {own} {all} s a b o w =
+    let t = drop start p in
+    let i = field - start in
+    let l : i + 1 < length t = omega (arith, length-drop start p) in
+    let e : start + i ≡ field = omega arith in
+    let e1 : start + (i + 1) ≡ field + 1 = omega arith in
+    let ga : getD t i 0 ≡ getD p field 0 = getD-drop start p i 0 ∙ ap (λ (n : ℕ). getD p n 0) e in
+    let gb : getD t (i + 1) 0 ≡ getD p (field + 1) 0 = getD-drop start p (i + 1) 0 ∙ ap (λ (n : ℕ). getD p n 0) e1 in
+    let wt : all ≡ words t = w ∙ ap words (tail start p) in
+    let u = words-less t i (place .even) l in
+    let v = words-put t i (seed start p) (place .even) l in
+    let d : words (drop start (setField field (seed start p) p)) ≡ words (put16 t i (seed start p)) = ap words (drop-put-from p start field (seed start p) (place .order)) in
+    record { counted = omega arith; same = d ∙ v ∙ omega arith }
+
+module _ (p : List ℕ) (field start : ℕ) (place : SumPlace field start) {first own all f : ℕ} (s : Summed p field start first own all) (folded : f ≡ fold (all - own + first)) where
+  completion-steps : completion field start p ≡ sent (protocolByte p) (65535 - f)
+  unfolding completion finish
+  completion-steps = rw (s .same, ← folded, setField-protocolByte field (seed start p) p (omega arith))
+
+  pub completion-udp : 65535 - f ≡ 0 → protocolByte p ≡ 17 → completion field start p ≡ 65535
+  completion-udp z e = completion-steps ∙ sent-udp (protocolByte p) (65535 - f) z e
+
+  pub completion-other : (protocolByte p ≡ 17 → ⊥) → completion field start p ≡ 65535 - f
+  completion-other n = completion-steps ∙ sent-other (protocolByte p) (65535 - f) n
+
+  pub completion-nonzero : (65535 - f ≡ 0 → ⊥) → completion field start p ≡ 65535 - f
+  completion-nonzero n = completion-steps ∙ sent-nonzero (protocolByte p) (65535 - f) n
+
+-- whether the checksum fits: the field's place, and then its value
+module _ (p : List ℕ) (field start : ℕ) where
+  pub fitsSum-short : length p < field + 2 → fitsSum (sumAt field start) p ≡ false
+  fitsSum-short h = rw (lt-leb (field + 2) (length p) h)
+
+  pub fitsSum-long : (v : ℕ) → field + 2 ≤ length p → v ≡ completion field start p → fitsSum (sumAt field start) p ≡ fieldIs field v p
+  fitsSum-long v h e = rw (le-leb (field + 2) (length p) h, e)

@@ -1,0 +1,11 @@
+pub mod PieceLaws
+pub mod RebuildLaws
+pub mod Steps
+pub mod CompletionLaws
+pub mod Writing
+pub mod Sizes
+pub mod Shortening
+pub mod Weaving
+pub mod Completing
+pub mod ChoiceLaws
+pub mod DatagramLaws

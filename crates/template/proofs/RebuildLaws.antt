@@ -1,0 +1,71 @@
+-- A packet that a template fits is rebuilt from its bytes outside the segments, with the seed in the field. Assumes nothing.
+use Prim.Native.Nat.{ℕ, _+_, _-_, _≤_, _<_}
+use mathlib.Core.Path.{_≡_, refl, ap, sym, _∙_}
+use mathlib.Core.List.{List}
+use mathlib.Core.Bool.{Bool, true, false, _&&_}
+use native.Mathlib.Omega.{arith}
+use lib.ListN.{length}
+use lib.Dec.{leb}
+use borrow.Author.Tests.{leb-true, le-leb}
+use Rattle.answer.proofs.Tests.{and-both}
+use Rattle.inet.specs.Transport.{seed, setField, finish, completion, fieldIs}
+use Rattle.inet.proofs.FieldLaws.{setField-length, fieldIs-back}
+use Rattle.plan.specs.Shapes.{Piece, Sum, noSum, sumAt, Shape}
+use Rattle.template.specs.Pieces.{fitsPieces, strip, weave, staticSize, lastEnd}
+use Rattle.template.specs.Fits.{fitsSum, fits}
+use Rattle.template.specs.Sound.{Ascends, ClearOf, SumFacts, SoundSum, SoundShape}
+use Rattle.template.specs.Datagrams.{seeded, completed, rebuilt, sumEnd, reaches}
+use Rattle.template.proofs.PieceLaws.{strip-weave, length-strip, fits-end, fits-set}
+
+pub seeded-length : (k : Sum) (p : List ℕ) → length (seeded k p) ≡ length p
+seeded-length noSum p = refl
+seeded-length (sumAt field start) p = setField-length field (seed start p) p
+
+-- the seed changes no segment
+pub seeded-fits : (k : Sum) (ps : List Piece) (p : List ℕ) → SoundSum k ps → fitsPieces ps (seeded k p) ≡ fitsPieces ps p
+seeded-fits noSum ps p h = refl
+seeded-fits (sumAt field start) ps p h = fits-set ps field (seed start p) p (h .clear)
+
+-- completing the sum brings back what the seed took
+pub completed-seeded : (k : Sum) (p : List ℕ) → fitsSum k p ≡ true → completed k (seeded k p) ≡ p
+unfolding completion
+completed-seeded noSum p f = refl
+completed-seeded (sumAt field start) p f =
+    fieldIs-back field (completion field start p) (seed start p) p (and-both (leb (field + 2) (length p)) _ f .1)
+
+pub fitsSum-end : (k : Sum) (p : List ℕ) → fitsSum k p ≡ true → sumEnd k ≤ length p
+fitsSum-end noSum p f = omega arith
+fitsSum-end (sumAt field start) p f = leb-true (field + 2) (length p) (and-both (leb (field + 2) (length p)) _ f .0)
+
+pub fits-both : (t : Shape) (p : List ℕ) → fits t p ≡ true → (fitsPieces (t .pieces) p ≡ true) × (fitsSum (t .sum) p ≡ true)
+unfolding fits
+fits-both t p f = and-both (fitsPieces (t .pieces) p) (fitsSum (t .sum) p) f
+
+-- what goes behind the Context ID
+abbrev pub body : Shape → List ℕ → List ℕ
+body t p = strip 0 (t .pieces) (seeded (t .sum) p)
+
+module _ (t : Shape) (p : List ℕ) (sound : SoundShape t) (f : fits t p ≡ true) where
+  fits-seeded : fitsPieces (t .pieces) (seeded (t .sum) p) ≡ true
+  fits-seeded = seeded-fits (t .sum) (t .pieces) p (sound .summed) ∙ fits-both t p f .0
+
+  -- rebuilding gives the packet
+  pub rebuilt-body : rebuilt t (body t p) ≡ p
+  unfolding rebuilt
+  rebuilt-body =
+      ap (completed (t .sum)) (strip-weave (t .pieces) (seeded (t .sum) p) (sound .ascends) fits-seeded)
+      ∙ completed-seeded (t .sum) p (fits-both t p f .1)
+
+  pub body-length : staticSize (t .pieces) + length (body t p) ≡ length p
+  body-length =
+      let l = seeded-length (t .sum) p in
+      let e = fits-end (t .pieces) 0 (seeded (t .sum) p) (omega arith) fits-seeded in
+      let s = length-strip (t .pieces) (seeded (t .sum) p) (sound .ascends) e in
+      omega arith
+
+  pub body-reaches : reaches t (body t p) ≡ true
+  unfolding reaches
+  body-reaches =
+      let l = fits-end (t .pieces) 0 p (omega arith) (fits-both t p f .0) in
+      let s = fitsSum-end (t .sum) p (fits-both t p f .1) in
+      rw (body-length, le-leb _ _ l, le-leb _ _ s)

@@ -1,0 +1,97 @@
+-- The sizes and ends of a template's segments. Assumes nothing.
+use Prim.Native.Nat.{ℕ, zero, suc, _+_, _-_, _≤_, _<_}
+use mathlib.Core.Path.{_≡_, refl, ap, sym, _∙_}
+use mathlib.Core.List.{List, [], _∷_, _++_}
+use mathlib.Core.Bool.{Bool, true, false, _&&_}
+use native.Mathlib.Omega.{arith}
+use lib.ListN.{length}
+use lib.Dec.{leb}
+use borrow.Author.Tests.{le-leb, lt-leb, leb-true}
+use Rattle.answer.proofs.Tests.{and-both}
+use Rattle.plan.specs.declared.Template.{Template}
+use Rattle.plan.specs.Rules.{staticLimit}
+use Rattle.plan.specs.Shapes.{Piece, pieceEnd, Sum, noSum, sumAt, Shape, window, segmentAt, shapeOf}
+use Rattle.template.specs.Pieces.{staticSize, lastEnd, strip, weave}
+use Rattle.template.specs.Sound.{Ascends, SoundShape}
+use Rattle.template.specs.Datagrams.{rebuilt, completed, sumEnd, reaches}
+use Rattle.template.specs.Usable.{UsableTemplate, piecesOf}
+use Rattle.template.proofs.PieceLaws.{drop-from, length-weave}
+use Rattle.template.proofs.Steps.{segmentEnd, piecesFrom, window-length, pieces-all, pieces-step, pieces-done}
+
+-- ascending pieces lie one behind the other, within the limit
+pub static-end : (ps : List Piece) (pos : ℕ) → Ascends pos ps → pos + staticSize ps ≤ lastEnd pos ps
+unfolding Ascends
+static-end [] pos a = omega arith
+static-end (s ∷ ss) pos a = omega (arith, a .0, static-end ss (pieceEnd s) (a .1))
+
+pub end-limit : (ps : List Piece) (pos : ℕ) → Ascends pos ps → lastEnd pos ps ≤ staticLimit
+unfolding Ascends
+end-limit [] pos a = a
+end-limit (s ∷ ss) pos a = end-limit ss (pieceEnd s) (a .1)
+
+pub static-limit : (t : Template) → UsableTemplate t → staticSize (piecesOf t) ≤ staticLimit
+static-limit t u = omega (arith, static-end (piecesOf t) 0 (u .sound .ascends), end-limit (piecesOf t) 0 (u .sound .ascends))
+
+module _ (t : Template) (j n : ℕ) (h : j < n) where
+  pub static-step : staticSize (piecesFrom t j (n - j)) ≡ segmentAt t j .length + staticSize (piecesFrom t (j + 1) (n - (j + 1)))
+  static-step = rw (pieces-step t j n h, window-length (t .bytes) (segmentAt t j .offset) (segmentAt t j .length))
+
+  pub end-step : (pos : ℕ) → lastEnd pos (piecesFrom t j (n - j)) ≡ lastEnd (segmentEnd t j) (piecesFrom t (j + 1) (n - (j + 1)))
+  end-step pos =
+      ap (lastEnd pos) (pieces-step t j n h)
+      ∙ ap (λ (k : ℕ). lastEnd (segmentAt t j .offset + k) (piecesFrom t (j + 1) (n - (j + 1)))) (window-length (t .bytes) (segmentAt t j .offset) (segmentAt t j .length))
+
+  pub ascends-head : (pos : ℕ) → Ascends pos (piecesFrom t j (n - j)) → pos ≤ segmentAt t j .offset
+  unfolding Ascends
+  ascends-head pos a = (rw (pieces-step t j n h) at a) .0
+
+  pub ascends-tail : (pos : ℕ) → Ascends pos (piecesFrom t j (n - j)) → Ascends (segmentEnd t j) (piecesFrom t (j + 1) (n - (j + 1)))
+  unfolding Ascends
+  ascends-tail pos a = rw (window-length (t .bytes) (segmentAt t j .offset) (segmentAt t j .length)) at ((rw (pieces-step t j n h) at a) .1)
+
+pub static-done : (t : Template) (j n : ℕ) → n ≤ j → staticSize (piecesFrom t j (n - j)) ≡ 0
+static-done t j n h = rw (pieces-done t j n h)
+
+-- the last segment's end
+last-from : (t : Template) (m j pos : ℕ) → lastEnd pos (piecesFrom t j (suc m)) ≡ segmentEnd t (j + m)
+unfolding piecesFrom
+last-from t zero j pos =
+    let e : j + 0 ≡ j = omega arith in
+    rw (e, window-length (t .bytes) (segmentAt t j .offset) (segmentAt t j .length))
+last-from t (suc m) j pos =
+    let e : j + suc m ≡ suc j + m = omega arith in
+    rw e (last-from t m (suc j) (pieceEnd (record { offset = segmentAt t j .offset; bytes = window (t .bytes) (segmentAt t j .offset) (segmentAt t j .length) })))
+
+pub last-end : (t : Template) (n : ℕ) → n ≡ t .count → 0 < n → lastEnd 0 (piecesOf t) ≡ segmentEnd t (n - 1)
+last-end t n q h =
+    let e : t .count - 0 ≡ suc (n - 1) = omega arith in
+    ap (lastEnd 0) (pieces-all t ∙ ap (piecesFrom t 0) e) ∙ last-from t (n - 1) 0 0 ∙ ap (segmentEnd t) (omega arith)
+
+pub last-none : (t : Template) (n : ℕ) → n ≡ t .count → n ≡ 0 → lastEnd 0 (piecesOf t) ≡ 0
+last-none t n q h =
+    ap (lastEnd 0) (pieces-all t ∙ pieces-done t 0 (t .count) (omega arith))
+
+-- whether bytes reach
+module _ (t : Template) (v : List ℕ) where
+  pub reaches-short : staticSize (piecesOf t) + length v < lastEnd 0 (piecesOf t) → reaches (shapeOf t) v ≡ false
+  unfolding reaches
+  reaches-short h = rw (lt-leb _ _ h)
+
+  pub reaches-sum : lastEnd 0 (piecesOf t) ≤ staticSize (piecesOf t) + length v → t .checksum ≡ true → reaches (shapeOf t) v ≡ leb (t .field + 2) (staticSize (piecesOf t) + length v)
+  unfolding reaches shapeOf
+  reaches-sum h e = rw (le-leb _ _ h, e)
+
+  pub reaches-plain : lastEnd 0 (piecesOf t) ≤ staticSize (piecesOf t) + length v → t .checksum ≡ false → reaches (shapeOf t) v ≡ true
+  unfolding reaches shapeOf
+  reaches-plain h e = rw (le-leb _ _ h, e) (le-leb 0 (staticSize (piecesOf t) + length v) (omega arith))
+
+  pub reaches-end : reaches (shapeOf t) v ≡ true → lastEnd 0 (piecesOf t) ≤ staticSize (piecesOf t) + length v
+  unfolding reaches
+  reaches-end e = leb-true _ _ (and-both _ _ e .0)
+
+  pub reaches-field : reaches (shapeOf t) v ≡ true → t .checksum ≡ true → t .field + 2 ≤ staticSize (piecesOf t) + length v
+  unfolding reaches shapeOf
+  reaches-field e f =
+      let n = staticSize (piecesOf t) + length v in
+      let g = and-both (leb (lastEnd 0 (piecesOf t)) n) (leb (sumEnd (shapeOf t .sum)) n) e in
+      leb-true (t .field + 2) n (rw f at (g .1))

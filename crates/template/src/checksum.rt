@@ -1,0 +1,49 @@
+// The checksum of a template against a packet, which stays as it is.
+ghost use mathlib.Core.Path.{_≡_};
+ghost use Prim.Native.Nat.{_≤_, _+_};
+ghost use lib.ListN.{length};
+ghost use Rattle.inet.specs.Transport.{completion};
+ghost use Rattle.plan.specs.Shapes.{sumAt};
+ghost use Rattle.template.specs.Fits.{fitsSum};
+ghost use Rattle.template.specs.Usable.{Testable, SumPlace};
+use inet::field::field_is;
+use inet::packet::byte_at;
+use inet::packet::protocol_byte;
+use inet::sum::folded;
+use inet::sum::sum_words;
+use inet::sum::word;
+use inet::transport::seed;
+
+// Whether the field lies in the packet and holds the right checksum.
+pub fn sum_fits(packet: &[u8], field: usize, start: usize) -> bool
+    requires { ⌜ Testable (now packet) ⌝ }
+    requires { ⌜ SumPlace field start ⌝ }
+    ensures { λ r. ⌜ r ≡ fitsSum (sumAt field start) (now (packet .entry)) ⌝ }
+{
+    if packet.len() < field + 2 {
+        return false;
+    }
+    let v = completion(packet, field, start);
+    field_is(packet, field, v)
+}
+
+// The right checksum: the words from start on, with the seed counted in place of what stands in the field. UDP sends a 0 as 65535.
+fn completion(packet: &[u8], field: usize, start: usize) -> u64
+    requires { ⌜ Testable (now packet) ⌝ }
+    requires { ⌜ SumPlace field start ⌝ }
+    requires { ⌜ field + 2 ≤ length (now packet) ⌝ }
+    ensures { λ r. ⌜ (r ≡ completion field start (now (packet .entry))) × (r ≤ 65535) ⌝ }
+{
+    let first = seed(packet, start);
+    let hi = byte_at(packet, field);
+    let lo = byte_at(packet, field + 1);
+    let own = word(hi, lo);
+    let all = sum_words(&packet[start..]);
+    let v = 65535 - folded(all - own + first);
+    if v == 0 {
+        if protocol_byte(packet) == 17 {
+            return 65535;
+        }
+    }
+    v
+}
