@@ -10,7 +10,7 @@ use Rattle.answer.specs.declared.Answer.{Answer}
 use Rattle.answer.specs.declared.Answer.the-variants.{Done, Refused}
 use Rattle.answer.specs.declared.Verdict.{Verdict}
 use Rattle.answer.specs.declared.Verdict.the-variants.{Go, Stop}
-use Rattle.answer.specs.Verdict.{Test, stopIf, firstOf, answerOf}
+use Rattle.answer.specs.Verdict.{Test, stopIf, firstOf, answerOf, _then_}
 
 -- one step along a table
 pub stops : (b : Bool) (r : Refusal) (v : Verdict) → b ≡ true → stopIf b r v ≡ Stop r
@@ -21,11 +21,12 @@ pub passes : (b : Bool) (r : Refusal) (v : Verdict) → b ≡ false → stopIf b
 passes true r v e = cc
 passes false r v e = refl
 
-go-test : (b : Bool) (r : Refusal) (v : Verdict) → stopIf b r v ≡ Go → b ≡ false
+-- a `Go` says that the test failed, and that what follows is a `Go`
+pub go-test : (b : Bool) (r : Refusal) (v : Verdict) → stopIf b r v ≡ Go → b ≡ false
 go-test true r v e = let z : true ≡ false = cc in z
 go-test false r v e = refl
 
-go-rest : (b : Bool) (r : Refusal) (v : Verdict) → stopIf b r v ≡ Go → v ≡ Go
+pub go-rest : (b : Bool) (r : Refusal) (v : Verdict) → stopIf b r v ≡ Go → v ≡ Go
 go-rest true r v e = cc
 go-rest false r v e = e
 
@@ -43,3 +44,12 @@ done-go (Stop r) m n e = cc
 pub done-count : (v : Verdict) (m n : ℕ) → answerOf v m ≡ Done n → m ≡ n
 done-count Go m n e = cc
 done-count (Stop r) m n e = cc
+
+-- two verdicts one after the other are a `Go` where both are
+pub then-first : (v w : Verdict) → (v then w) ≡ Go → v ≡ Go
+then-first Go w e = refl
+then-first (Stop r) w e = e
+
+pub then-second : (v w : Verdict) → (v then w) ≡ Go → w ≡ Go
+then-second Go w e = e
+then-second (Stop r) w e = cc

@@ -27,7 +27,6 @@ Inv-loop value request words₀ ids₀ count₀ at₀ words ids count at = T.Rea
 abbrev μ-loop : tie.MeasureT-loop
 μ-loop value request words₀ ids₀ count₀ at₀ words ids count at = length value - at
 
-
 -- <<<
 -- what was read in the turn
 got : (c : tie.Joined1 Inv-loop μ-loop) → readEntry (drop (c .before .before .before .before .before .before .before .before .loop .at) (c .before .before .before .before .before .before .before .before .before .before .args .value .now)) ≡ Good (c .before .before .before .r .given .0 .0) (c .before .before .before .r .given .0 .1 .0)
