@@ -3,3 +3,4 @@ pub mod DigitsLaws
 pub mod Bits
 pub mod WideOrder
 pub mod Parts
+pub mod Scans

@@ -47,11 +47,15 @@ abbrev pub sumOf : Bool → ℕ → ℕ → Sum
 sumOf true field start = sumAt field start
 sumOf false field start = noSum
 
+-- the first n segments of an array
+abbrev pub segmentsIn : List Segment → ℕ → List Segment
+segmentsIn ss n = from (λ j. getD ss j noSegment) 0 n
+
 abbrev pub segmentAt : Template → ℕ → Segment
 segmentAt t j = getD (t .segments) j noSegment
 
 abbrev pub segmentsOf : Template → List Segment
-segmentsOf t = from (segmentAt t) 0 (t .count)
+segmentsOf t = segmentsIn (t .segments) (t .count)
 
 unfoldable pub shapeOf : Template → Shape
 shapeOf t =

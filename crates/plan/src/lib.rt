@@ -2,16 +2,14 @@
 // A template says which bytes of a packet are always the same, and which checksum the far end completes. The file is read left to right;
 // refused are a file that is cut or too long (22), a wrong mark (20) or version (21), a number that is not in its shortest form (24), and
 // what breaks a rule (23, and 25 for Context IDs and the count of templates). Writing refuses too small an output first (16).
-use answer::Answer;
-use answer::Refusal;
+mod rules;
+
 use answer::Verdict;
+pub use rules::plan_fault;
+pub use rules::plan_sound;
 ghost use mathlib.Core.Path.{_≡_};
-ghost use lib.ListN.{length};
-ghost use Rattle.answer.specs.Verdict.{Writes};
-ghost use Rattle.plan.specs.Shapes.{shapesOf};
-ghost use Rattle.plan.specs.Rules.{planFault, soundPlan, writeVerdict};
-ghost use Rattle.plan.specs.File.{planBytes};
-ghost use Rattle.plan.specs.Results.{readPlan};
+ghost use mathlib.Core.List.{[]};
+ghost use Rattle.plan.specs.Results.{blankTemplate, planOf};
 
 pub const MAX_TEMPLATES: usize = 8;
 
@@ -57,4 +55,37 @@ pub struct Plan {
 pub struct PlanRead {
     pub verdict: Verdict,
     pub plan: Plan,
+}
+
+// A plan of no templates.
+pub fn no_templates() -> Plan
+    ensures { λ r. ⌜ r ≡ planOf [] ⌝ }
+{
+    let blank = blank_template();
+    let templates = [blank; MAX_TEMPLATES];
+    Plan {
+        count: 0,
+        templates,
+    }
+}
+
+fn blank_template() -> Template
+    ensures { λ r. ⌜ r ≡ blankTemplate ⌝ }
+{
+    let id = ContextId(0);
+    let none = Segment {
+        offset: 0,
+        length: 0,
+    };
+    let segments = [none; MAX_SEGMENTS];
+    let bytes = [0u8; STATIC_LIMIT];
+    Template {
+        id,
+        count: 0,
+        segments,
+        bytes,
+        checksum: false,
+        field: 0,
+        start: 0,
+    }
 }
