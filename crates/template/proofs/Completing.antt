@@ -5,13 +5,13 @@ use mathlib.Core.List.{List}
 use mathlib.Core.Bool.{Bool, true, false}
 use native.Mathlib.Omega.{arith}
 use lib.ListN.{length, take}
-use Rattle.inet.specs.Transport.{setField, finish}
+use Rattle.inet.specs.Transport.{seed, setField, finish}
 use Rattle.inet.proofs.FieldLaws.{put-take, setField-length}
 use Rattle.plan.specs.declared.Template.{Template}
 use Rattle.plan.specs.Shapes.{shapeOf}
 use Rattle.template.specs.Pieces.{staticSize, weave}
-use Rattle.template.specs.Datagrams.{rebuilt, reaches}
-use Rattle.template.specs.Usable.{UsableTemplate, piecesOf, Rebuildable, Weavable, Completable, Begins}
+use Rattle.template.specs.Datagrams.{seeded, rebuilt, reaches}
+use Rattle.template.specs.Usable.{UsableTemplate, piecesOf, Seedable, Rebuildable, Weavable, Completable, Begins}
 use Rattle.template.proofs.PieceLaws.{length-weave}
 use Rattle.template.proofs.Steps.{sum-facts}
 use Rattle.template.proofs.Sizes.{reaches-end, reaches-field}
@@ -58,3 +58,17 @@ module _ (t : Template) (v : List ℕ) (ready : Rebuildable t v) where
               ap (take r) q ∙ put-take out (t .field) (finish (t .start) (take r out)) r l
               ∙ ap (λ (x : List ℕ). setField (t .field) (finish (t .start) x) x) (b .front) ∙ sym s;
         }
+
+-- the seed in the field of a template with a checksum
+module _ (t : Template) (p : List ℕ) where
+  pub seeded-plain : t .checksum ≡ false → p ≡ seeded (shapeOf t .sum) p
+  unfolding shapeOf
+  seeded-plain e = rw e
+
+  pub seeded-sum : {v : ℕ} {q : List ℕ} → t .checksum ≡ true → v ≡ seed (t .start) p → q ≡ setField (t .field) v p → q ≡ seeded (shapeOf t .sum) p
+  unfolding shapeOf
+  seeded-sum e f g = rw e (g ∙ ap (λ (x : ℕ). setField (t .field) x p) f)
+
+  pub seedable-inside : Seedable t p → t .checksum ≡ true → t .field + 2 ≤ length p
+  unfolding shapeOf
+  seedable-inside s e = rw e at (s .inside)

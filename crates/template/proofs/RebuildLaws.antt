@@ -15,7 +15,7 @@ use Rattle.template.specs.Pieces.{fitsPieces, strip, weave, staticSize, 
 use Rattle.template.specs.Fits.{fitsSum, fits}
 use Rattle.template.specs.Sound.{Ascends, ClearOf, SumFacts, SoundSum, SoundShape}
 use Rattle.template.specs.Datagrams.{seeded, completed, rebuilt, sumEnd, reaches}
-use Rattle.template.proofs.PieceLaws.{strip-weave, length-strip, fits-end, fits-set}
+use Rattle.template.proofs.PieceLaws.{strip-weave, length-strip, length-weave, fits-end, fits-set}
 
 pub seeded-length : (k : Sum) (p : List ℕ) → length (seeded k p) ≡ length p
 seeded-length noSum p = refl
@@ -44,6 +44,15 @@ fits-both t p f = and-both (fitsPieces (t .pieces) p) (fitsSum (t .sum) p) f
 -- what goes behind the Context ID
 abbrev pub body : Shape → List ℕ → List ℕ
 body t p = strip 0 (t .pieces) (seeded (t .sum) p)
+
+pub completed-length : (k : Sum) (q : List ℕ) → length (completed k q) ≡ length q
+completed-length noSum q = refl
+completed-length (sumAt field start) q = setField-length field (finish start q) q
+
+-- the length of the packet that some bytes stand for
+pub length-rebuilt : (t : Shape) (v : List ℕ) → length (rebuilt t v) ≡ staticSize (t .pieces) + length v
+unfolding rebuilt
+length-rebuilt t v = completed-length (t .sum) (weave 0 (t .pieces) v) ∙ length-weave (t .pieces) 0 v
 
 module _ (t : Shape) (p : List ℕ) (sound : SoundShape t) (f : fits t p ≡ true) where
   fits-seeded : fitsPieces (t .pieces) (seeded (t .sum) p) ≡ true

@@ -13,7 +13,7 @@ use Rattle.template.specs.declared.Found.{Found}
 use Rattle.template.specs.declared.Found.the-variants.{At, Nothing}
 use Rattle.template.specs.Pieces.{strip, staticSize, lastEnd}
 use Rattle.template.specs.Fits.{Choice, full, short, firstFit, withId}
-use Rattle.template.specs.Datagrams.{maxPacket, rebuilt, reaches}
+use Rattle.template.specs.Datagrams.{maxPacket, sumEnd, rebuilt, reaches}
 use Rattle.template.specs.Sound.{SoundShape}
 
 -- a template of a sound plan
@@ -55,6 +55,12 @@ pub record SumPlace (field start : ℕ) : Type 0 where
 pub record Testable (p : List ℕ) : Type 0 where
   pub good : Form p
   pub small : length p ≤ 65535
+
+-- the field lies in the packet
+pub record Seedable (t : Template) (p : List ℕ) : Type 0 where
+  pub usable : UsableTemplate t
+  pub testable : Testable p
+  pub inside : sumEnd (shapeOf t .sum) ≤ length p
 
 -- ---- the bytes outside the segments
 

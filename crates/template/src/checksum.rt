@@ -1,18 +1,21 @@
-// The checksum of a template against a packet, which stays as it is.
+// The checksum of a template: whether a packet's own is the right one, and the seed in its place.
 ghost use mathlib.Core.Path.{_≡_};
 ghost use Prim.Native.Nat.{_≤_, _+_};
 ghost use lib.ListN.{length};
 ghost use Rattle.inet.specs.Transport.{completion};
-ghost use Rattle.plan.specs.Shapes.{sumAt};
+ghost use Rattle.plan.specs.Shapes.{sumAt, shapeOf};
 ghost use Rattle.template.specs.Fits.{fitsSum};
-ghost use Rattle.template.specs.Usable.{Testable, SumPlace};
+ghost use Rattle.template.specs.Datagrams.{seeded};
+ghost use Rattle.template.specs.Usable.{Testable, SumPlace, Seedable};
 use inet::field::field_is;
+use inet::field::put_word;
 use inet::packet::byte_at;
 use inet::packet::protocol_byte;
 use inet::sum::folded;
 use inet::sum::sum_words;
 use inet::sum::word;
 use inet::transport::seed;
+use plan::Template;
 
 // Whether the field lies in the packet and holds the right checksum.
 pub fn sum_fits(packet: &[u8], field: usize, start: usize) -> bool
@@ -25,6 +28,17 @@ pub fn sum_fits(packet: &[u8], field: usize, start: usize) -> bool
     }
     let v = completion(packet, field, start);
     field_is(packet, field, v)
+}
+
+// Puts the seed into the field of a template with a checksum.
+pub fn put_seed(t: Template, image: &mut [u8])
+    requires { ⌜ Seedable t (now image) ⌝ }
+    ensures { λ _. ⌜ now (image .exit) ≡ seeded (shapeOf t .sum) (now (image .entry)) ⌝ }
+{
+    if t.checksum {
+        let first = seed(image, t.start);
+        put_word(image, t.field, first);
+    }
 }
 
 // The right checksum: the words from start on, with the seed counted in place of what stands in the field. UDP sends a 0 as 65535.

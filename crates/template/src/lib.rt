@@ -3,7 +3,7 @@
 // outside the segments then stand for the packet, with the seed in the checksum's field. These are inner functions: they ask for a sound plan,
 // a packet of good form and room, which the entry points above them establish.
 pub mod search; // search.rt: the template that fits, and the template of a Context ID
-pub mod checksum; // checksum.rt: whether a packet's checksum is the right one
+pub mod checksum; // checksum.rt: whether a packet's checksum is the right one, and the seed in its place
 pub mod body; // body.rt: the bytes outside the segments, and the packet rebuilt
 
 // The most bytes of a packet.
