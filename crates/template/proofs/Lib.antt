@@ -9,3 +9,4 @@ pub mod Weaving
 pub mod Completing
 pub mod ChoiceLaws
 pub mod DatagramLaws
+pub mod PlanFacts
