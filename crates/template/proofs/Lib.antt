@@ -11,3 +11,4 @@ pub mod OpenLaws
 pub mod ChosenLaws
 pub mod ChoiceLaws
 pub mod DatagramLaws
+pub mod PlanFacts
