@@ -2,3 +2,5 @@ pub mod Elements
 pub mod Entries
 pub mod Capsules
 pub mod Results
+pub mod Sound
+pub mod Shortest
