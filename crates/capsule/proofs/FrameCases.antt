@@ -2,12 +2,13 @@
 use Prim.Native.Nat.{ℕ, _+_, _-_, _≤_, _<_}
 use mathlib.Core.Bool.{Bool, true, false, _&&_, and-false}
 use mathlib.Core.Path.{_≡_, refl, sym, ap, _∙_}
-use mathlib.Core.List.{List}
+use mathlib.Core.List.{List, _++_}
 use mathlib.Core.Logic.{_⊎_, inl, inr, ⊎-elim}
 use native.Mathlib.Omega.{arith}
 use borrow.Author.Tests.{le-leb, lt-leb, lt-ltb, le-ltb, leb-true, ltb-true, ltb-false}
 use lib.Dec.{leb, ltb}
-use lib.ListN.{length, drop, length-drop}
+use lib.ListN.{length, drop, length-drop, length-append}
+use lib.Seq.{drop-append-le}
 use Rattle.answer.specs.declared.Refusal.the-variants.{Incomplete, TooLong}
 use Rattle.varint.specs.declared.NumberRead.{NumberRead}
 use Rattle.varint.specs.declared.NumberRead.the-variants.{Whole, Cut}
@@ -16,7 +17,7 @@ use Rattle.varint.proofs.Reading as Number
 use Rattle.capsule.specs.declared.FrameRead.{FrameRead}
 use Rattle.capsule.specs.declared.FrameRead.the-variants.{Value, Refused}
 use Rattle.answer.specs.Choice.{pick}
-use Rattle.answer.proofs.Tests.{and-both}
+use Rattle.answer.proofs.Tests.{and-both, order}
 use Rattle.capsule.specs.Capsules.{maxValue, frameAt, afterLength, afterType, frameOf}
 
 -- a value of another type is of any length; of types 0 to 3 it is within the limit
@@ -122,3 +123,35 @@ module _ (s : List ℕ) where
 
   pub frame-facts : (kind start size : ℕ) → frameOf s ≡ Value kind start size → Framed s kind start size
   frame-facts kind start size e = of-value (frameOf s) kind start size frame-case e
+
+module _ {s : List ℕ} {kind start size : ℕ} (f : Framed s kind start size) where
+  short-either : Short kind size
+  short-either = ⊎-elim (λ h. inl h) (λ h. inr (f .short h)) (order 3 kind)
+
+  pub framed-frame : frameOf s ≡ Value kind start size
+  framed-frame =
+      let l : f .n + f .m + size ≤ length s = omega (arith, f .starts, f .there) in
+      sym (rw (f .starts) (whole s kind (f .n + f .m) size short-either l ∙ framed s kind (f .n) (f .type) size (f .m) (f .count)))
+
+-- bytes appended
+module _ (s t : List ℕ) where
+  read-behind : (n v m : ℕ) → n ≤ length s → readNumber (drop n s) ≡ Whole v m → readNumber (drop n (s ++ t)) ≡ Whole v m
+  read-behind n v m h e = rw (drop-append-le n s t h) (Number.read-append (drop n s) t v m e)
+
+  pub framed-append : (kind start size : ℕ) → Framed s kind start size → Framed (s ++ t) kind start size
+  framed-append kind start size f =
+      record {
+        n = f .n;
+        m = f .m;
+        type = Number.read-append s t kind (f .n) (f .type);
+        count = read-behind (f .n) size (f .m) (Number.taken s kind (f .n) (f .type) .within) (f .count);
+        starts = f .starts;
+        there = omega (arith, f .there, length-append s t);
+        short = f .short;
+      }
+
+  pub long-append : (kind n size m : ℕ) → readNumber s ≡ Whole kind n → readNumber (drop n s) ≡ Whole size m → kind ≤ 3 → maxValue < size
+      → frameOf (s ++ t) ≡ Refused TooLong
+  long-append kind n size m e g h l =
+      sym (too-long (s ++ t) kind (n + m) size h l
+      ∙ framed (s ++ t) kind n (Number.read-append s t kind n e) size m (read-behind n size m (Number.taken s kind n e .within) g))

@@ -11,3 +11,4 @@ pub mod Fields
 pub mod EntryBytes
 pub mod RangeBytes
 pub mod ReadFacts
+pub mod ReadLaws

@@ -69,7 +69,7 @@ parse-fuel f earlier s xs e = cc
 judged-cons : (b : Bool) (r : Refusal) (v w : Verdict) → b ≡ true → v ≡ Go → w ≡ Go → stopIf (not b) r (v then w) ≡ Go
 judged-cons b r v w e g h = rw (e, g, h)
 
-stop-go : (b : Bool) (r : Refusal) (v : Verdict) → stopIf (not b) r v ≡ Go → (b ≡ true) × (v ≡ Go)
+pub stop-go : (b : Bool) (r : Refusal) (v : Verdict) → stopIf (not b) r v ≡ Go → (b ≡ true) × (v ≡ Go)
 stop-go true r v h = (refl, h)
 stop-go false r v h = let z : _≡_ {A = ℕ} 0 1 = cc in absurd (omega arith)
 
@@ -119,6 +119,17 @@ module _ {A : Type 0} (f : Format A) (asked : Bool) (limit : ℕ) where
       parsed (all ys) e g =
           let w = counted ys (countVerdict asked limit (length ys)) refl g in
           (e ∙ ap all (w .0), w .1)
+
+-- a test that every list passes
+pub every-true : (A : Type 0) (read : List ℕ → Element A) (fuel : ℕ) (s : List ℕ) → everyElement read (λ t. true) fuel s ≡ true
+unfolding everyElement
+every-true A read zero s = refl
+every-true A read (suc fuel) [] = refl
+every-true A read (suc fuel) (b ∷ s) = after (λ t. every-true A read fuel t) (read (b ∷ s))
+  where
+    after : ((t : List ℕ) → everyElement read (λ t. true) fuel t ≡ true) → (r : Element A) → afterPassing (everyElement read (λ t. true) fuel) (b ∷ s) r ≡ true
+    after again (element a n) = again (drop n (b ∷ s))
+    after again broken = refl
 
 module _ {A : Type 0} {f : Format A} {words : A → Bool} {short : List ℕ → Bool} (l : Lawful f words short) where
   -- ---- what is read keeps the rules
@@ -177,21 +188,21 @@ module _ {A : Type 0} {f : Format A} {words : A → Bool} {short : List ℕ → 
   length-written (a ∷ xs) = omega (arith, length-append (f .bytes a) (written f xs), l .most a, length-written xs)
 
   -- ---- what is read in shortest form is what is written
-  every-step : (fuel b : ℕ) (s : List ℕ) (a : A) (n : ℕ) → f .read (b ∷ s) ≡ element a n → everyElement f short (suc fuel) (b ∷ s) ≡ true
-      → (short (b ∷ s) ≡ true) × (everyElement f short fuel (drop n (b ∷ s)) ≡ true)
+  every-step : (fuel b : ℕ) (s : List ℕ) (a : A) (n : ℕ) → f .read (b ∷ s) ≡ element a n → everyElement (f .read) short (suc fuel) (b ∷ s) ≡ true
+      → (short (b ∷ s) ≡ true) × (everyElement (f .read) short fuel (drop n (b ∷ s)) ≡ true)
   unfolding everyElement
   every-step fuel b s a n q e =
-      let p = and-both (short (b ∷ s)) (afterPassing (everyElement f short fuel) (b ∷ s) (f .read (b ∷ s))) e in
+      let p = and-both (short (b ∷ s)) (afterPassing (everyElement (f .read) short fuel) (b ∷ s) (f .read (b ∷ s))) e in
       (p .0, rw q at (p .1))
 
   parse-shortest : (fuel : ℕ) (earlier : List A) (s : List ℕ) (xs : List A) → Bytes s → parse f fuel earlier s ≡ all xs
-      → everyElement f short fuel s ≡ true → s ≡ written f xs
+      → everyElement (f .read) short fuel s ≡ true → s ≡ written f xs
   parse-shortest zero earlier s xs h e t = absurd (omega (arith, parse-fuel f earlier s xs e))
   parse-shortest (suc fuel) earlier s xs h e t =
       step (λ later r ys k g v. parse-shortest fuel later r ys k g v) s xs h t (parse-step f fuel earlier s xs e)
     where
-      step : ((later : List A) (r : List ℕ) (ys : List A) → Bytes r → parse f fuel later r ≡ all ys → everyElement f short fuel r ≡ true → r ≡ written f ys)
-          → (r : List ℕ) (zs : List A) → Bytes r → everyElement f short (suc fuel) r ≡ true → Step f fuel earlier r zs → r ≡ written f zs
+      step : ((later : List A) (r : List ℕ) (ys : List A) → Bytes r → parse f fuel later r ≡ all ys → everyElement (f .read) short fuel r ≡ true → r ≡ written f ys)
+          → (r : List ℕ) (zs : List A) → Bytes r → everyElement (f .read) short (suc fuel) r ≡ true → Step f fuel earlier r zs → r ≡ written f zs
       step again r zs h t done = refl
       step again r zs h t (more {b} {s} {a} {n} {ys} q g e) =
           let v = every-step fuel b s a n q t in
@@ -200,5 +211,5 @@ module _ {A : Type 0} {f : Format A} {words : A → Bool} {short : List ℕ → 
           (again (a ∷ earlier) (drop n (b ∷ s)) ys (Big.bytes-drop n (b ∷ s) h) e (v .1))
 
   pub read-shortest : (asked : Bool) (limit : ℕ) (s : List ℕ) (xs : List A) → Bytes s → elementsIn f asked limit s ≡ all xs
-      → everyElement f short (suc (length s)) s ≡ true → s ≡ written f xs
+      → everyElement (f .read) short (suc (length s)) s ≡ true → s ≡ written f xs
   read-shortest asked limit s xs h e t = parse-shortest (suc (length s)) [] s xs h (read-all f asked limit s xs e .0) t

@@ -10,7 +10,7 @@ use Rattle.varint.specs.declared.NumberRead.the-variants.{Whole, Cut}
 use Rattle.varint.specs.Numbers.{readNumber, shortest}
 use Rattle.capsule.specs.declared.FrameRead.{FrameRead}
 use Rattle.capsule.specs.declared.FrameRead.the-variants.{Value, Refused}
-use Rattle.capsule.specs.Elements.{Element, element, broken, Format}
+use Rattle.capsule.specs.Elements.{Element, element, broken}
 use Rattle.capsule.specs.Entries.{entryFormat}
 use Rattle.capsule.specs.Capsules.{frameOf}
 
@@ -32,14 +32,14 @@ abbrev pub afterPassing : {A : Type 0} → (List ℕ → Bool) → List ℕ → 
 afterPassing next s (element a n) = next (drop n s)
 afterPassing next s broken = true
 
-unfoldable pub everyElement : {A : Type 0} → Format A → (List ℕ → Bool) → ℕ → List ℕ → Bool
-everyElement f p zero s = true
-everyElement f p (suc fuel) [] = true
-everyElement f p (suc fuel) (b ∷ s) = p (b ∷ s) && afterPassing (everyElement f p fuel) (b ∷ s) (f .read (b ∷ s))
+unfoldable pub everyElement : {A : Type 0} → (List ℕ → Element A) → (List ℕ → Bool) → ℕ → List ℕ → Bool
+everyElement read p zero s = true
+everyElement read p (suc fuel) [] = true
+everyElement read p (suc fuel) (b ∷ s) = p (b ∷ s) && afterPassing (everyElement read p fuel) (b ∷ s) (read (b ∷ s))
 
 -- the Request IDs in a value of types 1 and 2
 abbrev pub shortestIds : ℕ → List ℕ → Bool
-shortestIds kind v = pick (eqb kind 1 || eqb kind 2) (everyElement (entryFormat false) shortestFront (suc (length v)) v) true
+shortestIds kind v = pick (eqb kind 1 || eqb kind 2) (everyElement (entryFormat false .read) shortestFront (suc (length v)) v) true
 
 abbrev pub shortestValue : List ℕ → FrameRead → Bool
 shortestValue s (Value kind start size) = shortestIds kind (take size (drop start s))
