@@ -12,3 +12,4 @@ pub mod EntryBytes
 pub mod RangeBytes
 pub mod ReadFacts
 pub mod ReadLaws
+pub mod RoundTrip
