@@ -1,21 +1,19 @@
 -- Entries on bytes: what is written is read back, and what is read with a shortest Request ID is what is written. By the version. Assumes nothing.
-use Prim.Native.Nat.{ℕ, suc, _+_, _-_, _*_, _^_, _≤_, _<_}
-use mathlib.Core.Bool.{Bool, true, false, _&&_}
+use Prim.Native.Nat.{ℕ, _+_, _-_, _^_, _≤_, _<_}
+use mathlib.Core.Bool.{Bool, true, false}
 use mathlib.Core.Path.{_≡_, refl, sym, ap, _∙_}
 use mathlib.Core.List.{List, [], _∷_, _++_, append-assoc}
-use mathlib.Core.Logic.{_⊎_, inl, inr, ⊎-elim}
+use mathlib.Core.Logic.{⊎-elim}
 use native.Mathlib.Omega.{arith}
 use borrow.Author.Tests.{lt-ltb, ltb-true, eqb-true}
-use lib.Dec.{ltb, eqb}
-use lib.ListN.{length, getD, take, drop, length-append, length-drop}
+use lib.Dec.{eqb}
+use lib.ListN.{length, getD, drop, length-append}
 use lib.Seq.{drop-at, drop-drop, drop-cons}
 use Rattle.answer.specs.Choice.{pick}
 use Rattle.answer.proofs.Tests.{and-both}
 use Rattle.octets.specs.Big.{bigAt, digits, Bytes}
 use Rattle.octets.proofs.BigLaws as Big
-use Rattle.varint.specs.declared.NumberRead.{NumberRead}
-use Rattle.varint.specs.declared.NumberRead.the-variants.{Whole, Cut}
-use Rattle.varint.specs.Numbers.{limit, readNumber, encode, encodedSize}
+use Rattle.varint.specs.Numbers.{limit, encode, encodedSize}
 use Rattle.varint.proofs.Encoding as Encoding
 use Rattle.varint.proofs.RoundTrip as RoundTrip
 use Rattle.lists.specs.declared.AddressEntry.{AddressEntry}
@@ -23,10 +21,10 @@ use Rattle.lists.specs.Rules.{idOf, addressOf, soundEntry}
 use Rattle.lists.proofs.EntryRule as Rule
 use Rattle.capsule.specs.declared.element.EntryRead.{EntryRead}
 use Rattle.capsule.specs.declared.element.EntryRead.the-variants.{Good, Bad}
-use Rattle.capsule.specs.Elements.{element, Format}
-use Rattle.capsule.specs.Entries.{entry4, entry6, readEntry, readBody, addressBytes, entryBytes, entryElement, entryFormat}
+use Rattle.capsule.specs.Elements.{element}
+use Rattle.capsule.specs.Entries.{entry4, entry6, readEntry, readBody, entryBytes, entryElement, entryFormat}
 use Rattle.capsule.specs.Sound.{isWord, entryInWords}
-use Rattle.capsule.specs.Shortest.{shortestRead, shortestFront}
+use Rattle.capsule.specs.Shortest.{shortestFront}
 use Rattle.capsule.proofs.EntryCases as Entry
 use Rattle.capsule.proofs.Fields as Fields
 use Rattle.capsule.proofs.Parsing.{Lawful}

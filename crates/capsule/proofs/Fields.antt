@@ -1,12 +1,12 @@
 -- The fields of an element on bytes: a number of k bytes and a byte, read where they were written. Assumes nothing.
-use Prim.Native.Nat.{ℕ, zero, suc, _+_, _-_, _*_, _/_, _%_, _^_, _≤_, _<_}
-use mathlib.Core.Path.{_≡_, refl, sym, ap, _∙_}
+use Prim.Native.Nat.{ℕ, zero, suc, _+_, _*_, _/_, _%_, _^_, _≤_, _<_}
+use mathlib.Core.Path.{_≡_, sym, ap, _∙_}
 use mathlib.Core.List.{List, [], _∷_, _++_}
 use native.Mathlib.Nat.{pow-suc, pow-le-pow-right, one-mul, zero-add}
 use lib.Dec.{lit<}
 use native.Mathlib.Omega.{arith}
-use lib.ListN.{length, getD, take, drop, length-take, length-drop, take-append-drop}
-use lib.Seq.{drop-drop, drop-cons}
+use lib.ListN.{length, take, drop, length-take, length-drop, take-append-drop}
+use lib.Seq.{drop-drop}
 use Rattle.octets.specs.Big.{bigFrom, big, bigAt, digits, Bytes}
 use Rattle.octets.proofs.BigLaws as Big
 

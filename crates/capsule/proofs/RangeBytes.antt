@@ -1,24 +1,24 @@
 -- Ranges on bytes: what is written is read back, and what is read is what is written. By the version. Assumes nothing.
-use Prim.Native.Nat.{ℕ, suc, _+_, _-_, _*_, _^_, _≤_, _<_}
+use Prim.Native.Nat.{ℕ, _^_, _≤_, _<_}
 use mathlib.Core.Bool.{Bool, true, false, _&&_}
 use mathlib.Core.Path.{_≡_, refl, sym, ap, _∙_}
 use mathlib.Core.List.{List, [], _∷_, _++_}
-use mathlib.Core.Logic.{_⊎_, inl, inr, ⊎-elim}
+use mathlib.Core.Logic.{⊎-elim}
 use native.Mathlib.Omega.{arith}
 use borrow.Author.Tests.{lt-ltb, ltb-true}
-use lib.Dec.{ltb, eqb}
-use lib.ListN.{length, getD, take, drop, length-append}
+use lib.Dec.{eqb}
+use lib.ListN.{length, getD, drop}
 use lib.Seq.{drop-cons}
 use Rattle.answer.specs.Choice.{pick}
 use Rattle.answer.proofs.Tests.{and-both}
 use Rattle.octets.specs.Big.{bigAt, digits, Bytes}
 use Rattle.lists.specs.declared.RouteRange.{RouteRange}
-use Rattle.lists.specs.Rules.{startOf, endOf, soundRange}
+use Rattle.lists.specs.Rules.{endOf, soundRange}
 use Rattle.lists.proofs.RangeRule as Rule
 use Rattle.capsule.specs.declared.element.RangeRead.{RangeRead}
 use Rattle.capsule.specs.declared.element.RangeRead.the-variants.{Good, Bad}
-use Rattle.capsule.specs.Elements.{element, Format}
-use Rattle.capsule.specs.Entries.{range4, range6, readRange, endsBytes, rangeBytes, rangeElement, rangeFormat}
+use Rattle.capsule.specs.Elements.{element}
+use Rattle.capsule.specs.Entries.{range4, range6, readRange, rangeBytes, rangeElement, rangeFormat}
 use Rattle.capsule.specs.Sound.{isWord, rangeInWords}
 use Rattle.capsule.proofs.RangeCases as Range
 use Rattle.capsule.proofs.Fields as Fields

@@ -1,25 +1,20 @@
 -- What a capsule that was read says: its frame, its value by its type, and its size. Assumes nothing.
-use Prim.Native.Nat.{ℕ, _+_, _≤_, _<_}
+use Prim.Native.Nat.{ℕ, _+_, _<_}
 use mathlib.Core.Bool.{Bool, true, false}
-use mathlib.Core.Path.{_≡_, refl, sym, ap, _∙_}
-use mathlib.Core.List.{List, []}
+use mathlib.Core.Path.{_≡_, refl}
+use mathlib.Core.List.{List}
 use native.Mathlib.Omega.{arith}
 use borrow.Author.Tests.{eqb-true, eqb-false}
 use lib.Dec.{eqb}
 use lib.ListN.{length, take, drop, length-take, length-drop}
-use Rattle.answer.specs.declared.Refusal.{Refusal}
 use Rattle.answer.specs.Choice.{pick}
-use Rattle.varint.specs.declared.NumberRead.the-variants.{Whole}
-use Rattle.varint.specs.Numbers.{readNumber}
-use Rattle.varint.proofs.Reading as Number
 use Rattle.lists.specs.declared.AddressEntry.{AddressEntry}
 use Rattle.lists.specs.declared.RouteRange.{RouteRange}
 use Rattle.lists.specs.Words.{maxAddresses, maxRanges}
 use Rattle.capsule.specs.declared.FrameRead.{FrameRead}
-use Rattle.capsule.specs.declared.FrameRead.the-variants.{Value, Refused}
 use Rattle.capsule.specs.Elements.{Parsed, fault, all, elementsIn}
 use Rattle.capsule.specs.Entries.{entryFormat, rangeFormat}
-use Rattle.capsule.specs.Capsules.{Capsule, datagram, assign, request, advertise, unknown, Reading, refused, capsule, listed, readValue, inFrame, frameOf, readCapsule}
+use Rattle.capsule.specs.Capsules.{Capsule, datagram, assign, request, advertise, unknown, capsule, listed, readValue, inFrame, frameOf, readCapsule}
 use Rattle.capsule.proofs.FrameCases as Frame
 
 -- the capsule of a value v, by its type

@@ -1,12 +1,11 @@
 -- Laws of reading a capsule: what is taken lies within the bytes, keeps the rules, and does not change when bytes are appended. Assumes nothing.
-use Prim.Native.Nat.{ℕ, _+_, _≤_, _<_}
-use mathlib.Core.Bool.{Bool, true, false, not, _&&_}
-use mathlib.Core.Path.{_≡_, refl, sym, ap, _∙_}
+use Prim.Native.Nat.{ℕ, _+_, _≤_}
+use mathlib.Core.Bool.{Bool, true, false}
+use mathlib.Core.Path.{_≡_, refl, sym, _∙_}
 use mathlib.Core.List.{List, [], _∷_, _++_}
 use native.Mathlib.Omega.{arith}
 use lib.ListN.{length, take, drop, length-take, length-drop}
 use lib.Seq.{take-append-le, drop-append-le}
-use Rattle.answer.specs.declared.Refusal.{Refusal}
 use Rattle.answer.specs.declared.Refusal.the-variants.{Incomplete, RangesOutOfOrder}
 use Rattle.answer.specs.declared.Verdict.the-variants.{Go}
 use Rattle.varint.proofs.Reading as Number
@@ -15,21 +14,20 @@ use Rattle.octets.proofs.BigLaws as Big
 use Rattle.lists.specs.declared.AddressEntry.{AddressEntry}
 use Rattle.lists.specs.declared.RouteRange.{RouteRange}
 use Rattle.lists.specs.Scan.{allOf}
-use Rattle.lists.specs.Rules.{soundEntry, soundRange, inOrder, beforeAll, soundAfter}
+use Rattle.lists.specs.Rules.{soundEntry, inOrder, beforeAll, soundAfter}
 use Rattle.lists.specs.Words.{maxAddresses, maxRanges, soundAddresses, soundRoutes, packEntries, packRanges}
 use Rattle.lists.proofs.Views as Views
 use Rattle.capsule.specs.declared.FrameRead.{FrameRead}
-use Rattle.capsule.specs.declared.FrameRead.the-variants.{Value, Refused}
 use Rattle.capsule.specs.Elements.{judged}
 use Rattle.capsule.specs.Entries.{entryFormat, rangeFormat, rangeFollows, newest}
-use Rattle.capsule.specs.Capsules.{maxValue, Capsule, datagram, assign, request, advertise, unknown, Reading, refused, capsule, readValue, inFrame, frameOf, readCapsule}
+use Rattle.capsule.specs.Capsules.{maxValue, Capsule, Reading, refused, capsule, inFrame, frameOf, readCapsule}
 use Rattle.capsule.specs.Results.{resultAt, readAt}
 use Rattle.capsule.specs.Sound.{Ruled, Sound, sound-datagram, sound-assign, sound-request, sound-advertise, sound-unknown, inWords}
 use Rattle.capsule.proofs.FrameCases as Frame
 use Rattle.capsule.proofs.Parsing as Parsing
 use Rattle.capsule.proofs.EntryBytes.{entries-lawful}
 use Rattle.capsule.proofs.RangeBytes.{ranges-lawful}
-use Rattle.capsule.proofs.ReadFacts.{Read, Taken, is-datagram, is-assign, is-request, is-advertise, is-unknown, read-facts}
+use Rattle.capsule.proofs.ReadFacts.{Taken, is-datagram, is-assign, is-request, is-advertise, is-unknown, read-facts}
 
 -- ---- within the bytes: its size is that of type, length and value
 module _ (s : List ℕ) (c : Capsule) (start size : ℕ) (e : readCapsule s ≡ capsule c start size) where

@@ -1,36 +1,32 @@
 -- A capsule that is written is read back, whatever follows; and one that is read with every number in its shortest form is what would be
 -- written. The frame is that of two numbers; the value is by the laws of lists. Assumes nothing.
-use Prim.Native.Nat.{ℕ, suc, _+_, _*_, _^_, _≤_, _<_}
-use mathlib.Core.Bool.{Bool, true, false, _&&_, _||_}
+use Prim.Native.Nat.{ℕ, suc, _+_, _≤_}
+use mathlib.Core.Bool.{true, false, _&&_}
 use mathlib.Core.Path.{_≡_, refl, sym, ap, _∙_}
-use mathlib.Core.List.{List, [], _∷_, _++_, append-assoc}
+use mathlib.Core.List.{List, _++_, append-assoc}
 use native.Mathlib.Omega.{arith}
 use borrow.Author.Tests.{eqb-true}
-use lib.Dec.{eqb}
 use lib.ListN.{length, take, drop, length-append, length-take, length-drop}
 use lib.Seq.{take-append-seam, take-at, take-add, drop-at, drop-drop}
-use Rattle.answer.specs.Choice.{pick}
 use Rattle.answer.proofs.Tests.{and-both}
 use Rattle.octets.specs.Big.{Bytes}
 use Rattle.octets.proofs.BigLaws as Big
-use Rattle.varint.specs.declared.NumberRead.the-variants.{Whole}
-use Rattle.varint.specs.Numbers.{limit, readNumber, encode, encodedSize, shortest}
+use Rattle.varint.specs.Numbers.{readNumber, encode, encodedSize, shortest}
 use Rattle.varint.proofs.Encoding as Encoding
 use Rattle.varint.proofs.RoundTrip as Number
 use Rattle.lists.specs.declared.AddressEntry.{AddressEntry}
 use Rattle.lists.specs.declared.RouteRange.{RouteRange}
 use Rattle.lists.specs.Words.{maxAddresses, maxRanges}
-use Rattle.capsule.specs.declared.FrameRead.the-variants.{Value}
-use Rattle.capsule.specs.Elements.{all, elementsIn, written}
+use Rattle.capsule.specs.Elements.{written}
 use Rattle.capsule.specs.Entries.{entryFormat, rangeFormat}
-use Rattle.capsule.specs.Capsules.{maxValue, Capsule, datagram, assign, request, advertise, unknown, capsule, readValue, inFrame, frameOf, readCapsule, frameBytes, capsuleBytes}
-use Rattle.capsule.specs.Sound.{kindOf, valueOf, startOf, Ruled, Sound, sound-datagram, sound-assign, sound-request, sound-advertise, sound-unknown, inWords}
-use Rattle.capsule.specs.Shortest.{shortestRead, shortestFront, behindNumber, everyElement, shortestIds, shortestValue, shortestCapsule}
+use Rattle.capsule.specs.Capsules.{maxValue, Capsule, datagram, assign, request, advertise, unknown, capsule, readValue, frameOf, readCapsule, frameBytes, capsuleBytes}
+use Rattle.capsule.specs.Sound.{startOf, Ruled, Sound, sound-datagram, sound-assign, sound-request, sound-advertise, sound-unknown, inWords}
+use Rattle.capsule.specs.Shortest.{shortestFront, behindNumber, everyElement, shortestIds, shortestValue, shortestCapsule}
 use Rattle.capsule.proofs.FrameCases as Frame
 use Rattle.capsule.proofs.Parsing as Parsing
 use Rattle.capsule.proofs.EntryBytes.{entries-lawful}
 use Rattle.capsule.proofs.RangeBytes.{ranges-lawful}
-use Rattle.capsule.proofs.ReadFacts.{Read, Taken, is-datagram, is-assign, is-request, is-advertise, is-unknown, read-facts}
+use Rattle.capsule.proofs.ReadFacts.{Taken, is-datagram, is-assign, is-request, is-advertise, is-unknown, read-facts}
 
 -- ---- written, then read
 module _ (kind : ℕ) (v rest : List ℕ) (h : kind ≤ 3) (l : length v ≤ maxValue) where

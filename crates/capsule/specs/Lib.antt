@@ -4,3 +4,4 @@ pub mod Capsules
 pub mod Results
 pub mod Sound
 pub mod Shortest
+pub mod Examples
