@@ -1,20 +1,19 @@
 -- What a search that found a template, or none, says of the datagram, and of what the code may do next. Assumes nothing.
-use Prim.Native.Nat.{ℕ, zero, suc, _+_, _-_, _≤_, _<_}
-use mathlib.Core.Path.{_≡_, refl, ap, sym, _∙_}
-use mathlib.Core.Logic.{_⊎_, inl, inr}
-use mathlib.Core.List.{List, [], _∷_, _++_, map}
-use mathlib.Core.Bool.{Bool, true, false}
+use Prim.Native.Nat.{ℕ, zero, suc, _+_, _≤_, _<_}
+use mathlib.Core.Path.{_≡_, ap, sym}
+use mathlib.Core.Logic.{inl, inr}
+use mathlib.Core.List.{List, _++_, map}
+use mathlib.Core.Bool.{true}
 use native.Mathlib.Omega.{arith}
 use lib.ListN.{length}
 use Rattle.octets.specs.Scan.{from}
 use Rattle.varint.specs.Numbers.{encode}
 use Rattle.plan.specs.declared.Template.{Template}
 use Rattle.plan.specs.declared.Plan.{Plan}
-use Rattle.plan.specs.Shapes.{Shape, shapeOf, templateAt, shapesOf}
-use Rattle.template.specs.declared.Found.{Found}
+use Rattle.plan.specs.Shapes.{shapeOf, templateAt, shapesOf}
 use Rattle.template.specs.declared.Found.the-variants.{At, Nothing}
-use Rattle.template.specs.Pieces.{strip, lastEnd}
-use Rattle.template.specs.Fits.{fits, full, short, firstFit, withId}
+use Rattle.template.specs.Pieces.{strip}
+use Rattle.template.specs.Fits.{fits, firstFit}
 use Rattle.template.specs.Members.{In}
 use Rattle.template.specs.Datagrams.{seeded, shortForm, fullForm, formOf, datagram}
 use Rattle.template.specs.Usable.{UsableTemplate, Usable, Chosen, Testable, Seedable, Shortenable, piecesOf}

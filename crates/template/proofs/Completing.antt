@@ -1,8 +1,8 @@
 -- The packet that `rebuild` leaves at the front of its image. Assumes nothing.
-use Prim.Native.Nat.{ℕ, suc, _+_, _-_, _≤_, _<_}
-use mathlib.Core.Path.{_≡_, refl, ap, sym, _∙_}
+use Prim.Native.Nat.{ℕ, _+_, _≤_, _<_}
+use mathlib.Core.Path.{_≡_, ap, sym, _∙_}
 use mathlib.Core.List.{List}
-use mathlib.Core.Bool.{Bool, true, false}
+use mathlib.Core.Bool.{true, false}
 use native.Mathlib.Omega.{arith}
 use lib.ListN.{length, take}
 use Rattle.inet.specs.Transport.{seed, setField, finish}
@@ -10,8 +10,8 @@ use Rattle.inet.proofs.FieldLaws.{put-take, setField-length}
 use Rattle.plan.specs.declared.Template.{Template}
 use Rattle.plan.specs.Shapes.{shapeOf}
 use Rattle.template.specs.Pieces.{staticSize, weave}
-use Rattle.template.specs.Datagrams.{seeded, rebuilt, reaches}
-use Rattle.template.specs.Usable.{UsableTemplate, piecesOf, Seedable, Rebuildable, Weavable, Completable, Begins}
+use Rattle.template.specs.Datagrams.{seeded, rebuilt}
+use Rattle.template.specs.Usable.{piecesOf, Seedable, Rebuildable, Weavable, Completable, Begins}
 use Rattle.template.proofs.PieceLaws.{length-weave}
 use Rattle.template.proofs.Steps.{sum-facts}
 use Rattle.template.proofs.Sizes.{reaches-end, reaches-field}

@@ -1,23 +1,21 @@
 -- Opening the datagram of a packet gives the packet. Assumes nothing.
-use Prim.Native.Nat.{ℕ, _+_, _-_, _≤_, _<_}
+use Prim.Native.Nat.{ℕ, _+_, _≤_, _<_}
 use mathlib.Core.Path.{_≡_, refl, ap, sym, _∙_}
-use mathlib.Core.List.{List, [], _∷_, _++_}
-use mathlib.Core.Bool.{Bool, true, false}
+use mathlib.Core.List.{List, _++_}
+use mathlib.Core.Bool.{true}
 use native.Mathlib.Omega.{arith}
-use lib.Dec.{eqb, leb, lit<}
-use lib.ListN.{length, drop, length-append}
+use lib.Dec.{lit<}
+use lib.ListN.{length, length-append}
 use lib.Seq.{drop-at}
 use borrow.Author.Tests.{le-leb, ne-eqb}
-use Rattle.answer.specs.Choice.{pick}
-use Rattle.varint.specs.Numbers.{limit, encode, encodedSize, readNumber}
+use Rattle.varint.specs.Numbers.{limit, encode, encodedSize}
 use Rattle.varint.proofs.RoundTrip.{read-encode}
 use Rattle.varint.proofs.Encoding.{length-encode, size-bounds}
 use Rattle.plan.specs.Shapes.{Shape}
-use Rattle.template.specs.Pieces.{strip}
 use Rattle.template.specs.Fits.{fits, Choice, full, short, firstFit, withId}
 use Rattle.template.specs.Sound.{SoundShape, SoundShapes}
 use Rattle.template.specs.Members.{In, Distinct}
-use Rattle.template.specs.Datagrams.{maxPacket, seeded, shortForm, fullForm, formOf, datagram, rebuilt, reaches, Opened, refused, packet, withinLimit, openShort, openBody, opened}
+use Rattle.template.specs.Datagrams.{maxPacket, seeded, shortForm, fullForm, formOf, datagram, packet, withinLimit, openBody, opened}
 use Rattle.template.proofs.PieceLaws.{length-strip-most}
 use Rattle.template.proofs.RebuildLaws.{seeded-length, body, rebuilt-body, body-reaches}
 use Rattle.template.proofs.ChoiceLaws.{withId-in, firstFit-in, sound-in, sound-distinct}

@@ -1,13 +1,12 @@
 -- `opened` by its cases, in the order of its tests. Assumes nothing.
 use Prim.Native.Nat.{ℕ, _+_, _≤_, _<_}
-use mathlib.Core.Path.{_≡_, refl, ap, sym, _∙_}
+use mathlib.Core.Path.{_≡_}
 use mathlib.Core.Logic.{_≢_}
 use mathlib.Core.List.{List}
-use mathlib.Core.Bool.{Bool, true, false}
+use mathlib.Core.Bool.{true, false}
 use native.Mathlib.Omega.{arith}
-use lib.Dec.{leb, eqb}
 use lib.ListN.{length, drop}
-use borrow.Author.Tests.{le-leb, lt-leb, eq-eqb, ne-eqb}
+use borrow.Author.Tests.{le-leb, lt-leb, ne-eqb}
 use Rattle.answer.specs.declared.Refusal.the-variants.{UnknownContext, CutDatagram, PacketTooLong}
 use Rattle.varint.specs.declared.NumberRead.the-variants.{Whole, Cut}
 use Rattle.varint.specs.Numbers.{readNumber}

@@ -1,19 +1,19 @@
 -- A packet that a template fits is rebuilt from its bytes outside the segments, with the seed in the field. Assumes nothing.
-use Prim.Native.Nat.{ℕ, _+_, _-_, _≤_, _<_}
-use mathlib.Core.Path.{_≡_, refl, ap, sym, _∙_}
+use Prim.Native.Nat.{ℕ, _+_, _≤_}
+use mathlib.Core.Path.{_≡_, refl, ap, _∙_}
 use mathlib.Core.List.{List}
-use mathlib.Core.Bool.{Bool, true, false, _&&_}
+use mathlib.Core.Bool.{true}
 use native.Mathlib.Omega.{arith}
 use lib.ListN.{length}
 use lib.Dec.{leb}
 use borrow.Author.Tests.{leb-true, le-leb}
 use Rattle.answer.proofs.Tests.{and-both}
-use Rattle.inet.specs.Transport.{seed, setField, finish, completion, fieldIs}
+use Rattle.inet.specs.Transport.{seed, finish, completion}
 use Rattle.inet.proofs.FieldLaws.{setField-length, fieldIs-back}
 use Rattle.plan.specs.Shapes.{Piece, Sum, noSum, sumAt, Shape}
-use Rattle.template.specs.Pieces.{fitsPieces, strip, weave, staticSize, lastEnd}
+use Rattle.template.specs.Pieces.{fitsPieces, strip, weave, staticSize}
 use Rattle.template.specs.Fits.{fitsSum, fits}
-use Rattle.template.specs.Sound.{Ascends, ClearOf, SumFacts, SoundSum, SoundShape}
+use Rattle.template.specs.Sound.{SoundSum, SoundShape}
 use Rattle.template.specs.Datagrams.{seeded, completed, rebuilt, sumEnd, reaches}
 use Rattle.template.proofs.PieceLaws.{strip-weave, length-strip, length-weave, fits-end, fits-set}
 

@@ -1,8 +1,8 @@
 -- The loop of `shorten`: the gaps before the first j segments are written, up to `next`, and the image is read up to pos.
 -- What is written and what is still to be stripped together never change. Assumes nothing.
-use Prim.Native.Nat.{ℕ, suc, _+_, _-_, _≤_, _<_}
-use mathlib.Core.Path.{_≡_, refl, ap, sym, _∙_}
-use mathlib.Core.List.{List, [], _∷_, _++_, append-assoc}
+use Prim.Native.Nat.{ℕ, _+_, _-_, _≤_, _<_}
+use mathlib.Core.Path.{_≡_, refl, ap, _∙_}
+use mathlib.Core.List.{List, _++_, append-assoc}
 use native.Mathlib.Omega.{arith}
 use lib.ListN.{length, take, drop, length-drop}
 use lib.Seq.{take-all, length-take-le}
@@ -10,7 +10,7 @@ use Rattle.plan.specs.declared.Template.{Template}
 use Rattle.plan.specs.Shapes.{segmentAt}
 use Rattle.template.specs.Pieces.{strip, lastEnd}
 use Rattle.template.specs.Sound.{Ascends}
-use Rattle.template.specs.Usable.{UsableTemplate, piecesOf, Wrote, Shortenable}
+use Rattle.template.specs.Usable.{piecesOf, Wrote, Shortenable}
 use Rattle.template.proofs.PieceLaws.{drop-from, ascends-end}
 use Rattle.template.proofs.Steps.{segmentEnd, piecesFrom, window-length, pieces-all, pieces-step, pieces-done}
 use Rattle.template.proofs.Sizes.{end-step, ascends-head, ascends-tail}

@@ -1,8 +1,8 @@
 -- The sizes and ends of a template's segments. Assumes nothing.
 use Prim.Native.Nat.{ℕ, zero, suc, _+_, _-_, _≤_, _<_}
-use mathlib.Core.Path.{_≡_, refl, ap, sym, _∙_}
-use mathlib.Core.List.{List, [], _∷_, _++_}
-use mathlib.Core.Bool.{Bool, true, false, _&&_}
+use mathlib.Core.Path.{_≡_, ap, _∙_}
+use mathlib.Core.List.{List, [], _∷_}
+use mathlib.Core.Bool.{true, false}
 use native.Mathlib.Omega.{arith}
 use lib.ListN.{length}
 use lib.Dec.{leb}
@@ -10,12 +10,11 @@ use borrow.Author.Tests.{le-leb, lt-leb, leb-true}
 use Rattle.answer.proofs.Tests.{and-both}
 use Rattle.plan.specs.declared.Template.{Template}
 use Rattle.plan.specs.Rules.{staticLimit}
-use Rattle.plan.specs.Shapes.{Piece, pieceEnd, Sum, noSum, sumAt, Shape, window, segmentAt, shapeOf}
-use Rattle.template.specs.Pieces.{staticSize, lastEnd, strip, weave}
-use Rattle.template.specs.Sound.{Ascends, SoundShape}
-use Rattle.template.specs.Datagrams.{rebuilt, completed, sumEnd, reaches}
+use Rattle.plan.specs.Shapes.{Piece, pieceEnd, window, segmentAt, shapeOf}
+use Rattle.template.specs.Pieces.{staticSize, lastEnd}
+use Rattle.template.specs.Sound.{Ascends}
+use Rattle.template.specs.Datagrams.{sumEnd, reaches}
 use Rattle.template.specs.Usable.{UsableTemplate, piecesOf}
-use Rattle.template.proofs.PieceLaws.{drop-from, length-weave}
 use Rattle.template.proofs.Steps.{segmentEnd, piecesFrom, window-length, pieces-all, pieces-step, pieces-done}
 
 -- ascending pieces lie one behind the other, within the limit

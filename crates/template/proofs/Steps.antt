@@ -1,23 +1,21 @@
 -- One step of each definition, at the code's index. Assumes nothing.
 use Prim.Native.Nat.{ℕ, zero, suc, _+_, _-_, _≤_, _<_}
-use mathlib.Core.Path.{_≡_, refl, ap, sym, _∙_}
-use mathlib.Core.List.{List, [], _∷_, _++_, map}
+use mathlib.Core.Path.{_≡_, refl, ap, _∙_}
+use mathlib.Core.List.{List, [], _∷_, map}
 use mathlib.Core.Bool.{Bool, true, false, _&&_}
 use native.Mathlib.Numerals.{add-one}
 use native.Mathlib.Omega.{arith}
-use lib.ListN.{length, take, drop, getD}
+use lib.ListN.{length, drop, getD}
 use lib.Seq.{drop-cons}
-use lib.Dec.{leb, eqb}
+use lib.Dec.{eqb}
 use borrow.Author.Tests.{le-leb, lt-leb, eq-eqb, ne-eqb}
-use Rattle.answer.specs.Choice.{pick}
 use Rattle.octets.specs.Scan.{from}
-use Rattle.plan.specs.declared.Segment.{Segment}
 use Rattle.plan.specs.declared.Template.{Template}
 use Rattle.plan.specs.declared.Plan.{Plan}
-use Rattle.plan.specs.Shapes.{Piece, pieceEnd, Sum, noSum, sumAt, Shape, window, pieceOf, sumOf, segmentAt, segmentsOf, shapeOf, templateAt, templatesOf, shapesOf}
+use Rattle.plan.specs.Shapes.{Piece, sumAt, Shape, window, pieceOf, segmentAt, shapeOf, templateAt, shapesOf}
 use Rattle.template.specs.Pieces.{begins, fitsPieces}
-use Rattle.template.specs.Fits.{fitsSum, fits, Choice, full, short, firstFit, withId}
-use Rattle.template.specs.Sound.{SumFacts, SoundSum, SoundShape}
+use Rattle.template.specs.Fits.{fitsSum, fits, full, short, firstFit, withId}
+use Rattle.template.specs.Sound.{SumFacts, SoundShape}
 use Rattle.template.specs.Usable.{piecesOf, SumPlace}
 
 module _ {A : Type 0} where

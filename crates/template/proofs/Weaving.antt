@@ -2,16 +2,15 @@
 -- What is written and what is still to be woven together never change. Assumes nothing.
 use Prim.Native.Nat.{ℕ, zero, suc, _+_, _-_, _≤_, _<_}
 use mathlib.Core.Path.{_≡_, refl, ap, sym, _∙_}
-use mathlib.Core.List.{List, [], _∷_, _++_, append-assoc}
+use mathlib.Core.List.{List, _++_, append-assoc}
 use native.Mathlib.Omega.{arith}
-use lib.ListN.{length, take, drop, getD, length-drop}
+use lib.ListN.{length, take, drop, length-drop}
 use lib.Seq.{take-all, length-take-le, drop-cons, drop-drop}
-use Rattle.octets.specs.Scan.{from}
 use Rattle.plan.specs.declared.Template.{Template}
 use Rattle.plan.specs.Shapes.{window, segmentAt}
 use Rattle.template.specs.Pieces.{weave, staticSize, lastEnd}
 use Rattle.template.specs.Sound.{Ascends}
-use Rattle.template.specs.Usable.{UsableTemplate, piecesOf, Wrote, Weavable, Begins}
+use Rattle.template.specs.Usable.{piecesOf, Wrote, Weavable, Begins}
 use Rattle.template.proofs.PieceLaws.{length-weave}
 use Rattle.template.proofs.Steps.{segmentEnd, piecesFrom, window-length, pieces-all, pieces-step, pieces-done}
 use Rattle.template.proofs.Sizes.{static-end, static-step, static-done, end-step, ascends-head, ascends-tail}

@@ -2,16 +2,16 @@
 use Prim.Native.Nat.{ℕ}
 use mathlib.Core.Path.{_≡_, refl}
 use mathlib.Core.Bool.{true, false}
-use mathlib.Core.List.{List, [], _∷_, _++_}
+use mathlib.Core.List.{List, [], _∷_}
 use lib.ListN.{take}
-use Rattle.answer.specs.declared.Refusal.the-variants.{UnknownContext, CutDatagram, PacketTooLong}
+use Rattle.answer.specs.declared.Refusal.the-variants.{UnknownContext, CutDatagram}
 use Rattle.varint.specs.Numbers.{readNumber, encode}
 use Rattle.inet.specs.Sum.{words, fold}
 use Rattle.inet.specs.Packet.{protocolByte, put16}
 use Rattle.inet.specs.Transport.{addressWords, seed, fieldIs, sent, finish, completion}
-use Rattle.plan.specs.Shapes.{Piece, sumAt, noSum, Shape}
+use Rattle.plan.specs.Shapes.{sumAt, noSum, Shape}
 use Rattle.template.specs.Pieces.{fitsPieces, strip, weave}
-use Rattle.template.specs.Fits.{fits, full, short, firstFit, withId}
+use Rattle.template.specs.Fits.{fits, short, firstFit, withId}
 use Rattle.template.specs.Datagrams.{shortForm, fullForm, datagram, rebuilt, reaches, packet, refused, opened}
 
 -- Context ID 2, both addresses and both ports static, the checksum of UDP

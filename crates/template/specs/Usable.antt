@@ -7,13 +7,13 @@ use lib.ListN.{length, take, drop}
 use Rattle.inet.specs.Packet.{Form}
 use Rattle.plan.specs.declared.Template.{Template}
 use Rattle.plan.specs.declared.Plan.{Plan}
-use Rattle.plan.specs.Shapes.{Piece, Shape, shapeOf, segmentAt, templateAt, shapesOf}
+use Rattle.plan.specs.Shapes.{Piece, shapeOf, segmentAt, templateAt}
 use Rattle.plan.specs.Rules.{maxTemplates, maxSegments, staticLimit}
 use Rattle.template.specs.declared.Found.{Found}
 use Rattle.template.specs.declared.Found.the-variants.{At, Nothing}
-use Rattle.template.specs.Pieces.{strip, staticSize, lastEnd}
-use Rattle.template.specs.Fits.{Choice, full, short, firstFit, withId}
-use Rattle.template.specs.Datagrams.{maxPacket, sumEnd, rebuilt, reaches}
+use Rattle.template.specs.Pieces.{staticSize, lastEnd}
+use Rattle.template.specs.Fits.{Choice, full, short}
+use Rattle.template.specs.Datagrams.{maxPacket, sumEnd, reaches}
 use Rattle.template.specs.Sound.{SoundShape}
 
 -- a template of a sound plan

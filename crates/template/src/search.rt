@@ -1,5 +1,4 @@
 // The search in a plan.
-ghost use mathlib.Core.Path.{_≡_};
 ghost use Rattle.plan.specs.Shapes.{shapesOf};
 ghost use Rattle.template.specs.Fits.{firstFit, withId};
 ghost use Rattle.template.specs.Usable.{Usable, Testable, Chosen};

@@ -1,5 +1,5 @@
 -- The front of the image is the packet, and its sum goes into the whole image. Assumes nothing.
-use mathlib.Core.Path.{_≡_, ap, _∙_}
+use mathlib.Core.Path.{ap, _∙_}
 use native.Mathlib.Omega.{arith}
 use lib.ListN.{length-take}
 use Rattle.inet.specs.Transport.{setField}

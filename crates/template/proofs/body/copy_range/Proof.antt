@@ -1,7 +1,5 @@
 -- The kit's copy into the part of out from the place on: `copied`. Assumes nothing.
-use Prim.Native.Nat.{ℕ, _+_, _-_, _≤_, _<_}
-use mathlib.Core.Path.{_≡_, refl, ap, sym, _∙_}
-use native.Mathlib.Omega.{arith}
+use mathlib.Core.Path.{refl}
 use Rattle.template.proofs.Writing.{copied}
 use borrow.Author.Needs.{needs}
 use Rattle.template.proofs.body.copy_range.Statement.{statement}

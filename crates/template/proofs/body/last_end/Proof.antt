@@ -1,6 +1,6 @@
 -- The last segment's end is the end of the pieces: `last-end`. Assumes nothing.
-use Prim.Native.Nat.{ℕ, _+_, _-_, _≤_, _<_}
-use mathlib.Core.Path.{_≡_, refl, ap, sym, _∙_}
+use Prim.Native.Nat.{_-_}
+use mathlib.Core.Path.{refl, sym}
 use native.Mathlib.Omega.{arith}
 use Rattle.template.proofs.Sizes.{last-end, last-none}
 use borrow.Author.Needs.{needs}

@@ -1,7 +1,4 @@
 -- The woven packet, and its sum completed where there is one. Assumes nothing.
-use Prim.Native.Nat.{ℕ, _+_, _≤_, _<_}
-use mathlib.Core.Path.{_≡_, refl, ap, sym, _∙_}
-use native.Mathlib.Omega.{arith}
 use Rattle.template.proofs.Completing.{weavable, completable, begins-plain, begins-sum}
 use borrow.Author.Needs.{needs}
 use Rattle.template.proofs.body.rebuild.Statement.{statement}

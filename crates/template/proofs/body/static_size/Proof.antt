@@ -1,8 +1,7 @@
 -- What is counted and what is still to be counted together never change. Assumes nothing.
-use Prim.Native.Nat.{ℕ, _+_, _-_, _≤_, _<_}
-use mathlib.Core.Path.{_≡_, refl, ap, sym, _∙_}
+use Prim.Native.Nat.{_+_, _-_, _≤_}
+use mathlib.Core.Path.{_≡_, ap}
 use native.Mathlib.Omega.{arith}
-use Rattle.plan.specs.Rules.{staticLimit}
 use Rattle.template.specs.Pieces.{staticSize}
 use Rattle.template.specs.Usable.{piecesOf}
 use Rattle.template.proofs.Steps.{piecesFrom, pieces-all}

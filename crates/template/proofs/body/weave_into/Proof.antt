@@ -1,12 +1,10 @@
 -- The invariant is `Weaving`. Assumes nothing.
-use Prim.Native.Nat.{ℕ, _+_, _-_, _≤_, _<_}
-use mathlib.Core.Path.{_≡_, refl, ap, sym, _∙_}
+use Prim.Native.Nat.{ℕ, _-_, _≤_}
+use mathlib.Core.Path.{_≡_, sym, _∙_}
 use native.Mathlib.Omega.{arith}
 use lib.ListN.{length}
 use Rattle.plan.specs.declared.Template.{Template}
 use Rattle.plan.specs.Rules.{staticLimit}
-use Rattle.plan.specs.Shapes.{segmentAt}
-use Rattle.template.specs.Usable.{Weavable}
 use Rattle.template.proofs.Steps.{segmentEnd}
 use Rattle.template.proofs.Weaving.{Weaving, Ready, weaving-none, weaving-ready, weaving-more, last-room, weaving-done}
 use borrow.Author.Needs.{needs}

@@ -1,6 +1,5 @@
 -- The words from start on, less the field's own, plus the seed, are the words with the seed in the field: `summed`. Assumes nothing.
-use Prim.Native.Nat.{ℕ, _+_, _-_, _≤_, _<_}
-use mathlib.Core.Path.{_≡_, sym}
+use mathlib.Core.Path.{sym}
 use native.Mathlib.Omega.{arith}
 use Rattle.template.proofs.CompletionLaws.{Summed, summed, completion-udp, completion-other, completion-nonzero}
 use borrow.Author.Needs.{needs}

@@ -1,5 +1,5 @@
 -- The field's place decides first, and then its value. Assumes nothing.
-use mathlib.Core.Path.{_≡_, sym, _∙_}
+use mathlib.Core.Path.{sym, _∙_}
 use Rattle.template.proofs.CompletionLaws.{fitsSum-short, fitsSum-long}
 use borrow.Author.Needs.{needs}
 use Rattle.template.proofs.checksum.sum_fits.Statement.{statement}

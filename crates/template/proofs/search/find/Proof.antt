@@ -1,11 +1,11 @@
 -- What is left to compare gives the answer of each whole comparison: the bytes of a segment, the segments of a template, the templates of the plan.
 -- Assumes nothing.
-use Prim.Native.Nat.{ℕ, _+_, _-_, _≤_, _<_}
+use Prim.Native.Nat.{ℕ, _+_, _-_, _≤_}
 use mathlib.Core.Path.{_≡_, refl, ap, sym, _∙_}
-use mathlib.Core.Bool.{Bool, true, false, _&&_}
+use mathlib.Core.Bool.{true, false, _&&_}
 use mathlib.Core.List.{List}
 use native.Mathlib.Omega.{arith}
-use lib.ListN.{length, drop, getD}
+use lib.ListN.{length, drop}
 use borrow.Author.Tests.{not-true, not-false}
 use Rattle.plan.specs.declared.Segment.{Segment}
 use Rattle.plan.specs.declared.Template.{Template}
@@ -132,7 +132,7 @@ templates-again c =
     let b : InTemplates = s .before .before .before in (
       b .before .templates .inv .0,
       omega arith,
-      passed b (unfit-pieces (The b) (Packet b) (s .before .segments .inv .1 ∙ fits-short (The b) (Packet b) (s .before .segments .j) _ (s .segments-test .taken) (c .if1 .taken))),
+      passed b (unfit-pieces (The b) (Packet b) (s .before .segments .inv .1 ∙ fits-short (The b) (Packet b) (s .before .segments .j) _ (s .segments-test .taken) (omega arith))),
     )
 
 bytes-holds :
@@ -140,7 +140,7 @@ bytes-holds :
 bytes-holds c =
     let s : InSegments = c .before .before .before in
     let b : InTemplates = s .before .before .before in
-    (omega arith, fits-long (The b) (Packet b) (s .before .segments .j) _ (s .segments-test .taken) _ _ refl refl (c .if1 .left))
+    (omega arith, fits-long (The b) (Packet b) (s .before .segments .j) _ (s .segments-test .taken) (Seg s .offset) (Seg s .length) refl refl (omega arith))
 
 shared-slice-read-if2 :
     tie.Need-shared-slice-read-if2
@@ -174,7 +174,7 @@ templates-again-2 c =
     let b : InTemplates = s .before .before .before in (
       b .before .templates .inv .0,
       omega arith,
-      passed b (unfit-pieces (The b) (Packet b) (s .before .segments .inv .1 ∙ (y .before .bytes .inv .1 ∙ rw (begins-other (The b .bytes) (Packet b) (y .before .bytes .k) _ (y .bytes-test .taken) (omega arith) (c .if2 .taken))))),
+      passed b (unfit-pieces (The b) (Packet b) (s .before .segments .inv .1 ∙ (y .before .bytes .inv .1 ∙ rw (begins-other (The b .bytes) (Packet b) (y .before .bytes .k) (Seg s .offset + Seg s .length) (omega arith) (omega arith) (c .if2 .taken))))),
     )
 
 add-k : tie.Need-add-k Inv-bytes μ-bytes Inv-segments μ-segments Inv-templates μ-templates
@@ -190,7 +190,7 @@ bytes-again c =
     let y : InBytes = c .before .before .before in
     let s : InSegments = y .before .before .before .before .before in
     let b : InTemplates = s .before .before .before in
-    (omega arith, y .before .bytes .inv .1 ∙ rw (begins-same (The b .bytes) (Packet b) (y .before .bytes .k) _ (y .bytes-test .taken) (omega arith) (c .if2 .left)))
+    (omega arith, y .before .bytes .inv .1 ∙ rw (begins-same (The b .bytes) (Packet b) (y .before .bytes .k) (Seg s .offset + Seg s .length) (omega arith) (omega arith) (c .if2 .left)))
 
 add-j : tie.Need-add-j Inv-bytes μ-bytes Inv-segments μ-segments Inv-templates μ-templates
 add-j c = omega (arith, ok (c .before .before .before .before .before .before .before .before) .few)
@@ -204,7 +204,7 @@ segments-again :
 segments-again c =
     let s : InSegments = c .before .before .before .before .before in
     let b : InTemplates = s .before .before .before in
-    (omega arith, s .before .segments .inv .1 ∙ (c .before .bytes .inv .1 ∙ rw (begins-done (The b .bytes) (Packet b) (c .before .bytes .k) _ (c .bytes-test .left))))
+    (omega arith, s .before .segments .inv .1 ∙ (c .before .bytes .inv .1 ∙ rw (begins-done (The b .bytes) (Packet b) (c .before .bytes .k) (Seg s .offset + Seg s .length) (omega arith))))
 
 sum-fits-requires :
     tie.Need-sum-fits-requires Inv-bytes μ-bytes Inv-segments μ-segments Inv-templates μ-templates

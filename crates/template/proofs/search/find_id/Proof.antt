@@ -1,6 +1,6 @@
 -- What is left to search gives the answer of the whole search. Assumes nothing.
-use Prim.Native.Nat.{ℕ, _+_, _-_, _≤_, _<_}
-use mathlib.Core.Path.{_≡_, refl, ap, sym, _∙_}
+use Prim.Native.Nat.{_-_, _≤_}
+use mathlib.Core.Path.{_≡_, ap, sym, _∙_}
 use native.Mathlib.Omega.{arith}
 use Rattle.plan.specs.Shapes.{shapesOf}
 use Rattle.template.specs.Fits.{withId}
