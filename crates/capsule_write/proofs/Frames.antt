@@ -103,18 +103,19 @@ module _ (asked : Bool) (w : List ℕ) (n : ℕ) where
   unfolding addressVerdict
   address-no-room h = rw (lt-ltb n capsuleRoom h)
 
-  pub address-judged : capsuleRoom ≤ n → addressVerdict asked w n ≡ entriesVerdict asked w
+  -- with room, what the judge says
+  pub address-says : capsuleRoom ≤ n → {v u : Verdict} → v ≡ entriesVerdict asked w → v ≡ u → addressVerdict asked w n ≡ u
   unfolding addressVerdict
-  address-judged h = rw (le-ltb n capsuleRoom h)
+  address-says h e g = rw (le-ltb n capsuleRoom h) (sym e ∙ g)
 
 module _ (w : List ℕ) (n : ℕ) where
   pub route-no-room : n < capsuleRoom → routeVerdict w n ≡ Stop NoRoom
   unfolding routeVerdict
   route-no-room h = rw (lt-ltb n capsuleRoom h)
 
-  pub route-judged : capsuleRoom ≤ n → routeVerdict w n ≡ rangesVerdict w
+  pub route-says : capsuleRoom ≤ n → {v u : Verdict} → v ≡ rangesVerdict w → v ≡ u → routeVerdict w n ≡ u
   unfolding routeVerdict
-  route-judged h = rw (le-ltb n capsuleRoom h)
+  route-says h e g = rw (le-ltb n capsuleRoom h) (sym e ∙ g)
 
 -- ---- the capsules
 

@@ -1,3 +1,4 @@
 pub mod Places
 pub mod Sizes
 pub mod Verdicts
+pub mod Examples

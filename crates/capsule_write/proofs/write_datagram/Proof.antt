@@ -9,14 +9,10 @@ use Rattle.capsule_write.proofs.write_datagram.Statement.{statement}
 use Rattle.capsule_write.proofs.write_datagram.Tie as tie
 
 returns : tie.Need-returns
-returns c =
-    let a = c .before .before .before .args in
-    Frames.refused (Frames.datagram-no-room (a .value .now) (length (a .out .now)) (c .if1 .taken))
+returns c = Frames.refused (Frames.datagram-no-room _ _ (omega arith))
 
 returns-2 : tie.Need-returns-2
-returns-2 c =
-    let a = c .before .before .before .before .args in
-    Frames.refused (Frames.datagram-too-long (a .value .now) (length (a .out .now)) (c .before .if1 .left) (c .if2 .taken))
+returns-2 c = Frames.refused (Frames.datagram-too-long _ _ (omega arith) (omega arith))
 
 put-header-requires : tie.Need-put-header-requires
 put-header-requires c κs = search needs
@@ -31,9 +27,9 @@ same-length c = search needs
 
 returns-3 : tie.Need-returns-3
 returns-3 c =
-    let a = c .before .before .before .before .before .before .before .before .before .before .before .before .args in
-    Frames.wrote (Frames.datagram-goes (a .value .now) (length (a .out .now)) (c .before .before .before .before .before .before .before .before .before .if1 .left) (c .before .before .before .before .before .before .before .before .if2 .left))
-    (put-as (Frames.datagram-frame (a .value .now)) (Frames.put-frame 0 refl (c .before .before .before .before .before .before .put-header .ensures) (c .before .before .put-bytes .ensures)))
+    let v = c .before .before .before .before .before .before .before .before .before .before .before .before .args .value .now in
+    Frames.wrote (Frames.datagram-goes _ _ (omega arith) (omega arith))
+    (put-as (Frames.datagram-frame v) (Frames.put-frame 0 refl (c .before .before .before .before .before .before .put-header .ensures) (c .before .before .put-bytes .ensures)))
 
 pub write-datagram-spec : {M : Type 1} → statement M
 write-datagram-spec =

@@ -1,17 +1,15 @@
 -- Each return is a case of the verdict; a `Go` says that the count is within its limit.
 use mathlib.Core.Path.{sym, _∙_}
-use lib.ListN.{length}
 use Rattle.capsule_write.proofs.Placing.{put-as}
 use Rattle.capsule_write.proofs.Frames as Frames
 use Rattle.capsule_write.proofs.Accepted.{ranges-go}
+use native.Mathlib.Omega.{arith}
 use borrow.Author.Needs.{needs}
 use Rattle.capsule_write.proofs.write_routes.Statement.{statement}
 use Rattle.capsule_write.proofs.write_routes.Tie as tie
 
 returns : tie.Need-returns
-returns c =
-    let a = c .before .before .args in
-    Frames.refused (Frames.route-no-room (a .list .words) (length (a .out .now)) (c .if1 .taken))
+returns c = Frames.refused (Frames.route-no-room _ _ (omega arith))
 
 ranges-verdict-requires : tie.Need-ranges-verdict-requires
 ranges-verdict-requires c κs = search needs
@@ -21,9 +19,8 @@ enum-told c = search needs
 
 put-routes-requires : tie.Need-put-routes-requires
 put-routes-requires c κs =
-    let a = c .before .before .before .before .before .before .before .before .before .args in
-    let go = ranges-go (a .list .words) (sym (c .before .before .before .before .ranges-verdict .ensures) ∙ c .before .before .enum-told .given .1) in
-    (go .within, c .before .before .before .before .before .before .before .if1 .left)
+    let go = ranges-go (c .before .before .before .before .before .before .before .before .before .args .list .words) (sym (c .before .before .before .before .ranges-verdict .ensures) ∙ c .before .before .enum-told .given .1) in
+    (go .within, omega arith)
 
 enum-known-verdict : tie.Need-enum-known-verdict
 enum-known-verdict c = search needs
@@ -33,16 +30,12 @@ same-length c = search needs
 
 returns-2 : tie.Need-returns-2
 returns-2 c =
-    let a = c .before .before .before .before .before .before .before .before .before .before .before .before .args in
-    Frames.wrote
-    (Frames.route-judged (a .list .words) (length (a .out .now)) (c .before .before .before .before .before .before .before .before .before .before .if1 .left) ∙ sym (c .before .before .before .before .before .before .before .ranges-verdict .ensures) ∙ c .before .before .before .before .before .enum-told .given .1)
-    (put-as (Frames.advertise-frame (a .list .words)) (c .before .before .put-routes .ensures))
+    Frames.wrote (Frames.route-says _ _ (omega arith) (c .before .before .before .before .before .before .before .ranges-verdict .ensures) (c .before .before .before .before .before .enum-told .given .1))
+    (put-as (Frames.advertise-frame (c .before .before .before .before .before .before .before .before .before .before .before .before .args .list .words)) (c .before .before .put-routes .ensures))
 
 returns-3 : tie.Need-returns-3
 returns-3 c =
-    let a = c .before .before .before .before .before .before .before .before .args in
-    Frames.refused
-    (Frames.route-judged (a .list .words) (length (a .out .now)) (c .before .before .before .before .before .before .if1 .left) ∙ sym (c .before .before .before .ranges-verdict .ensures) ∙ c .before .verdict .given .1)
+    Frames.refused (Frames.route-says _ _ (omega arith) (c .before .before .before .ranges-verdict .ensures) (c .before .verdict .given .1))
 
 pub write-routes-spec : {M : Type 1} → statement M
 write-routes-spec =
