@@ -1,6 +1,7 @@
 -- Walking down a table of refusals, and what a `Go` at its end says. Assumes nothing.
 use Prim.Native.Nat.{ℕ, zero, suc, _<_}
 use native.Mathlib.Nat.{not-suc-le-zero, le-of-suc-le-suc}
+use native.Mathlib.Omega.{arith}
 use mathlib.Core.Path.{_≡_, refl}
 use mathlib.Core.Bool.{Bool, true, false}
 use mathlib.Core.List.{List, [], _∷_}
@@ -10,6 +11,7 @@ use Rattle.answer.specs.declared.Answer.{Answer}
 use Rattle.answer.specs.declared.Answer.the-variants.{Done, Refused}
 use Rattle.answer.specs.declared.Verdict.{Verdict}
 use Rattle.answer.specs.declared.Verdict.the-variants.{Go, Stop}
+use Rattle.answer.specs.Number.{answerNumber, numberOf-positive}
 use Rattle.answer.specs.Verdict.{Test, stopIf, firstOf, answerOf, _then_}
 
 -- one step along a table
@@ -53,3 +55,8 @@ then-first (Stop r) w e = e
 pub then-second : (v w : Verdict) → (v then w) ≡ Go → w ≡ Go
 then-second Go w e = e
 then-second (Stop r) w e = cc
+
+-- only a `Go` is answered with 0
+pub zero-go : (v : Verdict) (n : ℕ) → answerNumber (answerOf v n) ≡ 0 → v ≡ Go
+zero-go Go n e = refl
+zero-go (Stop r) n e = absurd (omega (arith, numberOf-positive r))

@@ -1,7 +1,8 @@
 -- The numbers that the box gives back.
-use Prim.Native.Nat.{ℕ}
+use Prim.Native.Nat.{ℕ, _<_}
 use mathlib.Core.Path.{_≡_, refl, sym, ap, _∙_}
 use mathlib.Core.List.{List, [], _∷_}
+use lib.Dec.{lit<}
 use lib.ListN.{getD}
 use Rattle.answer.specs.declared.Refusal.{Refusal}
 use Rattle.answer.specs.declared.Refusal.the-variants.{Incomplete, TooLong, BadAddress, BadRange, RangesOutOfOrder, BadRequestId, TooMany}
@@ -77,3 +78,27 @@ read-back PlanContext = refl
 -- the number tells any two refusals apart
 pub numberOf-injective : (a b : Refusal) → numberOf a ≡ numberOf b → a ≡ b
 numberOf-injective a b e = sym (read-back a) ∙ ap (λ (n : ℕ). getD numbered n Incomplete) e ∙ read-back b
+
+-- 0 is no refusal's number
+pub numberOf-positive : (r : Refusal) → 0 < numberOf r
+numberOf-positive Incomplete = lit< tt
+numberOf-positive TooLong = lit< tt
+numberOf-positive BadAddress = lit< tt
+numberOf-positive BadRange = lit< tt
+numberOf-positive RangesOutOfOrder = lit< tt
+numberOf-positive BadRequestId = lit< tt
+numberOf-positive TooMany = lit< tt
+numberOf-positive BrokenState = lit< tt
+numberOf-positive BadForm = lit< tt
+numberOf-positive HopLimit = lit< tt
+numberOf-positive NotGranted = lit< tt
+numberOf-positive UnknownContext = lit< tt
+numberOf-positive CutDatagram = lit< tt
+numberOf-positive PacketTooLong = lit< tt
+numberOf-positive NoRoom = lit< tt
+numberOf-positive PlanMark = lit< tt
+numberOf-positive PlanVersion = lit< tt
+numberOf-positive PlanCut = lit< tt
+numberOf-positive PlanRule = lit< tt
+numberOf-positive PlanNotShortest = lit< tt
+numberOf-positive PlanContext = lit< tt

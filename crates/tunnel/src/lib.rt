@@ -2,24 +2,10 @@
 // in as a packet. Each judges first, and writes only where nothing refuses.
 // Sending refuses: too small an output (16), a state that breaks its rules (9), a packet over the limit (15), of bad form (10), out of hops (11),
 // not granted (12). Receiving: 16, 9, a cut Context ID (14), an unknown one (13), too few bytes (14), then 15, 10 and 12.
-use answer::Answer;
-use answer::Refusal;
-use answer::Verdict;
-use grant::Grants;
-use inet::Address;
-use lists::ADDRESS_WORDS;
-use lists::ROUTE_WORDS;
-use plan::Plan;
-use template::Found;
-use varint::NumberRead;
-ghost use mathlib.Core.Path.{_≡_};
-ghost use lib.ListN.{length};
-ghost use Rattle.answer.specs.Verdict.{Writes};
-ghost use Rattle.tunnel.specs.Tunnel.{grantsOf, sendVerdict, sentBytes, receiveVerdict, receivedBytes};
+mod sending; // sending.rt: from a packet to a datagram
+mod receiving; // receiving.rt: from a datagram to a packet
 
 // The least outputs that are sent to and received into.
 pub const SEND_ROOM: usize = 1508;
 
 pub const RECEIVE_ROOM: usize = 1500;
-
-pub const MAX_PACKET: usize = 1500;

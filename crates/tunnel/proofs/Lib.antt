@@ -1,0 +1,3 @@
+pub mod SendingLaws
+pub mod Agreement
+pub mod Answered

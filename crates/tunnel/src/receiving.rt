@@ -1,0 +1,10 @@
+// From a datagram to a packet.
+use answer::Answer;
+use grant::Grants;
+use lists::ADDRESS_WORDS;
+use lists::ROUTE_WORDS;
+use plan::Plan;
+ghost use mathlib.Core.Path.{_≡_};
+ghost use lib.ListN.{length};
+ghost use Rattle.answer.specs.Verdict.{Writes};
+ghost use Rattle.tunnel.specs.Tunnel.{grantsOf, receiveVerdict, receivedBytes};
