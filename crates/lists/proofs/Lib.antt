@@ -1,6 +1,8 @@
+pub mod Calls
 pub mod Scans
+pub mod VersionRule
 pub mod EntryRule
 pub mod RangeRule
-pub mod Lists
+pub mod ListScans
 pub mod Packing
 pub mod Views

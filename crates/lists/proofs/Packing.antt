@@ -8,7 +8,8 @@ use lib.ListN.{length, set, replicate}
 use Rattle.lists.specs.declared.AddressEntry.{AddressEntry}
 use Rattle.lists.specs.declared.RouteRange.{RouteRange}
 use Rattle.lists.specs.Rules.{idOf}
-use Rattle.lists.specs.Words.{maxAddresses, maxRanges, entryTag, rangeTag, entryWords, rangeWords, packEntries, packRanges, putEntry, putRange}
+use Rattle.lists.specs.Words.{maxAddresses, maxRanges, entryTag, entryWords, packEntries, putEntry}
+use Rattle.lists.specs.Words.{rangeTag, rangeWords, packRanges, putRange}
 
 -- ---- entries
 

@@ -1,8 +1,8 @@
 -- Scans of a list that is read by its indices: the invariants of the loops that look for one element, or test them all. Assumes nothing.
 use Prim.Native.Nat.{ℕ, zero, suc, _+_, _-_, _≤_, _<_}
-use mathlib.Core.Bool.{Bool, true, false, _&&_, _||_}
-use mathlib.Core.Path.{_≡_, refl, ap, _∙_}
-use mathlib.Core.List.{List, [], _∷_}
+use mathlib.Core.Bool.{Bool, true, false, _&&_, _||_, and-assoc, or-assoc}
+use mathlib.Core.Path.{_≡_, refl, sym, ap}
+use mathlib.Core.List.{List, [], _∷_, _++_}
 use native.Mathlib.Nat.{sub-zero}
 use native.Mathlib.Numerals.{add-one}
 use native.Mathlib.Omega.{arith}
@@ -23,6 +23,16 @@ module _ {A : Type 0} where
   pub from-same : (f g : ℕ → A) → ((k : ℕ) → f k ≡ g k) → (i n : ℕ) → from f i n ≡ from g i n
   from-same f g e i zero = refl
   from-same f g e i (suc n) = rw (e i, from-same f g e (suc i) n)
+
+-- a test over two lists, one after the other
+module _ {A : Type 0} (p : A → Bool) where
+  pub any-append : (xs ys : List A) → anyOf p (xs ++ ys) ≡ (anyOf p xs || anyOf p ys)
+  any-append [] ys = refl
+  any-append (x ∷ xs) ys = rw (any-append xs ys) (sym (or-assoc (p x) (anyOf p xs) (anyOf p ys)))
+
+  pub all-append : (xs ys : List A) → allOf p (xs ++ ys) ≡ (allOf p xs && allOf p ys)
+  all-append [] ys = refl
+  all-append (x ∷ xs) ys = rw (all-append xs ys) (sym (and-assoc (p x) (allOf p xs) (allOf p ys)))
 
 -- no element before i passes the test p: what those from i on say is the answer b
 pub record Seeking {A : Type 0} (p : A → Bool) (f : ℕ → A) (n : ℕ) (b : Bool) (i : ℕ) : Type 0 where

@@ -1,18 +1,19 @@
--- The elements of a packed list are the list, since a sound element's version, prefix and protocol are bytes; so it is sound. Assumes nothing.
+-- The elements of a packed list are the list, since the two parts of a sound element's tag are bytes; so it is sound. Assumes nothing.
 use Prim.Native.Nat.{ℕ, zero, suc, _+_, _*_, _/_, _%_, _≤_, _<_}
 use mathlib.Core.Bool.{Bool, true, false, _&&_}
 use mathlib.Core.Path.{_≡_, refl, ap, _∙_}
 use mathlib.Core.List.{List, [], _∷_}
 use native.Mathlib.Nat.{not-suc-le-zero}
 use native.Mathlib.Omega.{arith}
-use lib.ListN.{length, getD, replicate}
+use lib.ListN.{length, getD}
 use borrow.Author.Tests.{le-leb}
 use Rattle.answer.proofs.Tests.{and-both}
 use Rattle.lists.specs.declared.AddressEntry.{AddressEntry}
 use Rattle.lists.specs.declared.RouteRange.{RouteRange}
 use Rattle.lists.specs.Scan.{from, allOf}
 use Rattle.lists.specs.Rules.{soundEntry, soundRange, inOrder, beforeAll, soundAfter}
-use Rattle.lists.specs.Words.{maxAddresses, maxRanges, countOf, entryAt, rangeAt, entriesOf, rangesOf, soundAddresses, soundRoutes, entryWords, rangeWords, packEntries, packRanges, noAddresses, noRoutes}
+use Rattle.lists.specs.Words.{maxAddresses, maxRanges, countOf, entryAt, rangeAt, entriesOf, rangesOf, soundAddresses, soundRoutes}
+use Rattle.lists.specs.Words.{entryWords, rangeWords, packEntries, packRanges, noAddresses, noRoutes}
 use Rattle.lists.proofs.Scans.{from-suc, from-same}
 use Rattle.lists.proofs.EntryRule as Entry
 use Rattle.lists.proofs.RangeRule as Range
@@ -62,7 +63,7 @@ entry-first k e es f =
     let p : e .prefix < 256 = omega (arith, Entry.prefix-small e f) in
     rw (tag-low (e .version) (e .prefix) v, tag-high (e .version) (e .prefix) v p)
 
-pub entries-in : (k : ℕ) (es : List AddressEntry) → length es ≤ k → allOf soundEntry es ≡ true
+entries-in : (k : ℕ) (es : List AddressEntry) → length es ≤ k → allOf soundEntry es ≡ true
     → from (entryIn (entryWords k es)) 0 (length es) ≡ es
 entries-in k [] h s = refl
 entries-in zero (e ∷ es) h s = absurd (not-suc-le-zero h)
@@ -81,7 +82,8 @@ entries-at n k es h s =
     from-same (entryAt (n ∷ entryWords k es)) (entryIn (entryWords k es)) (entry-at-cons n (entryWords k es)) 0 (length es)
     ∙ entries-in k es h s
 
-pub entries-pack : (es : List AddressEntry) → length es ≤ maxAddresses → allOf soundEntry es ≡ true → entriesOf (packEntries es) ≡ es
+pub entries-pack : (es : List AddressEntry) → length es ≤ maxAddresses → allOf soundEntry es ≡ true
+    → entriesOf (packEntries es) ≡ es
 unfolding entriesOf packEntries
 entries-pack es h s = simp (le-leb (length es) maxAddresses h) (entries-at (length es) maxAddresses es h s)
 
@@ -89,7 +91,8 @@ pub count-pack-entries : (es : List AddressEntry) → countOf (packEntries es) �
 unfolding packEntries
 count-pack-entries es = refl
 
-pub sound-pack-entries : (es : List AddressEntry) → length es ≤ maxAddresses → allOf soundEntry es ≡ true → soundAddresses (packEntries es) ≡ true
+pub sound-pack-entries : (es : List AddressEntry) → length es ≤ maxAddresses → allOf soundEntry es ≡ true
+    → soundAddresses (packEntries es) ≡ true
 unfolding soundAddresses
 sound-pack-entries es h s = rw (count-pack-entries es, le-leb (length es) maxAddresses h, entries-pack es h s) s
 
@@ -141,7 +144,7 @@ range-first k r rs f =
     let v : r .version < 256 = Range.version-small r f in
     rw (tag-low (r .version) (r .protocol) v, tag-high (r .version) (r .protocol) v (f .protocol))
 
-pub ranges-in : (k : ℕ) (a : RouteRange) (rs : List RouteRange) → length rs ≤ k → soundAfter a rs ≡ true
+ranges-in : (k : ℕ) (a : RouteRange) (rs : List RouteRange) → length rs ≤ k → soundAfter a rs ≡ true
     → from (rangeIn (rangeWords k rs)) 0 (length rs) ≡ rs
 ranges-in k a [] h s = refl
 ranges-in zero a (r ∷ rs) h s = absurd (not-suc-le-zero h)
@@ -160,7 +163,8 @@ ranges-at n k a rs h s =
     from-same (rangeAt (n ∷ rangeWords k rs)) (rangeIn (rangeWords k rs)) (range-at-cons n (rangeWords k rs)) 0 (length rs)
     ∙ ranges-in k a rs h s
 
-pub ranges-pack : (a : RouteRange) (rs : List RouteRange) → length rs ≤ maxRanges → soundAfter a rs ≡ true → rangesOf (packRanges rs) ≡ rs
+pub ranges-pack : (a : RouteRange) (rs : List RouteRange) → length rs ≤ maxRanges → soundAfter a rs ≡ true
+    → rangesOf (packRanges rs) ≡ rs
 unfolding rangesOf packRanges
 ranges-pack a rs h s = simp (le-leb (length rs) maxRanges h) (ranges-at (length rs) maxRanges a rs h s)
 
@@ -168,7 +172,8 @@ pub count-pack-ranges : (rs : List RouteRange) → countOf (packRanges rs) ≡ l
 unfolding packRanges
 count-pack-ranges rs = refl
 
-pub sound-pack-ranges : (rs : List RouteRange) → length rs ≤ maxRanges → soundAfter beforeAll rs ≡ true → soundRoutes (packRanges rs) ≡ true
+pub sound-pack-ranges : (rs : List RouteRange) → length rs ≤ maxRanges → soundAfter beforeAll rs ≡ true
+    → soundRoutes (packRanges rs) ≡ true
 unfolding soundRoutes
 sound-pack-ranges rs h s = rw (count-pack-ranges rs, le-leb (length rs) maxRanges h, ranges-pack beforeAll rs h s) s
 

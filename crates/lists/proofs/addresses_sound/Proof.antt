@@ -1,11 +1,11 @@
 -- The invariant: what the entries from i on say is the answer (`Checking`); each turn is `all-pass` or `all-fail`.
-use mathlib.Core.Path.{sym, _∙_}
 use Prim.Native.Nat.{_-_}
-use borrow.Author.Tests.{not-true, not-false}
 use Rattle.lists.specs.Rules.{soundEntry}
 use Rattle.lists.specs.Words.{entryAt, soundAddresses}
 use Rattle.lists.proofs.Scans as Scans
-use Rattle.lists.proofs.Lists as Lists
+use Rattle.lists.proofs.ListScans as List
+use Rattle.lists.proofs.Calls.{called-true, called-false}
+use native.Mathlib.Omega.{arith}
 use borrow.Author.Needs.{needs}
 use Rattle.lists.proofs.addresses_sound.Statement.{statement}
 use Rattle.lists.proofs.addresses_sound.Tie as tie
@@ -20,10 +20,10 @@ element-copy-out-count : tie.Need-element-copy-out-count Inv-loop μ-loop
 element-copy-out-count c = search needs
 
 returns : tie.Need-returns Inv-loop μ-loop
-returns c = Lists.check-entries-over _ (c .if1 .taken)
+returns c = List.check-entries-over (c .before .before .args .w .now) (omega arith)
 
 loop-holds : tie.Need-loop-holds Inv-loop μ-loop
-loop-holds c = Lists.check-entries _ (c .if1 .left)
+loop-holds c = List.check-entries (c .before .before .args .w .now) (omega arith)
 
 entry-at-requires : tie.Need-entry-at-requires Inv-loop μ-loop
 entry-at-requires c κs = search needs
@@ -32,7 +32,10 @@ entry-sound-requires : tie.Need-entry-sound-requires Inv-loop μ-loop
 entry-sound-requires c κs = search needs
 
 returns-2 : tie.Need-returns-2 Inv-loop μ-loop
-returns-2 c = Scans.all-fail (c .before .before .before .before .loop .inv) (c .before .before .before .loop-test .taken) (c .before .before .entry-at .ensures) (sym (c .before .entry-sound .ensures) ∙ not-true _ (c .if2 .taken))
+returns-2 c =
+    let s = c .before .before in
+    Scans.all-fail (s .before .before .loop .inv) (s .before .loop-test .taken) (s .entry-at .ensures)
+    (called-false (c .before .entry-sound .ensures) (c .if2 .taken))
 
 add-i : tie.Need-add-i Inv-loop μ-loop
 add-i c = search needs
@@ -41,7 +44,10 @@ loop-less : tie.Need-loop-less Inv-loop μ-loop
 loop-less c = search needs
 
 loop-again : tie.Need-loop-again Inv-loop μ-loop
-loop-again c = Scans.all-pass (c .before .before .before .before .loop .inv) (c .before .before .before .loop-test .taken) (c .before .before .entry-at .ensures) (sym (c .before .entry-sound .ensures) ∙ not-false _ (c .if2 .left))
+loop-again c =
+    let s = c .before .before in
+    Scans.all-pass (s .before .before .loop .inv) (s .before .loop-test .taken) (s .entry-at .ensures)
+    (called-true (c .before .entry-sound .ensures) (c .if2 .left))
 
 returns-3 : tie.Need-returns-3 Inv-loop μ-loop
 returns-3 c = Scans.all-end (c .before .loop .inv) (c .loop-test .left)

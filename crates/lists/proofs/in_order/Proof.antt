@@ -1,5 +1,5 @@
 -- Each return is a case of `inOrder`: the first of version, protocol and address that differs decides.
-use mathlib.Core.Path.{sym, _∙_}
+use mathlib.Core.Path.{_∙_}
 use Rattle.lists.proofs.RangeRule as Range
 use borrow.Author.Needs.{needs}
 use Rattle.lists.proofs.in_order.Statement.{statement}

@@ -1,14 +1,14 @@
 -- The invariant: what the ranges from i on say after the last one is the answer (`Judging`); each turn is a law of it.
-use mathlib.Core.Path.{sym, _∙_}
 use Prim.Native.Nat.{_-_}
-use borrow.Author.Tests.{not-true, not-false}
-use Rattle.lists.proofs.Lists as Lists
+use Rattle.lists.proofs.ListScans as List
+use Rattle.lists.proofs.Calls.{called-true, called-false}
+use native.Mathlib.Omega.{arith}
 use borrow.Author.Needs.{needs}
 use Rattle.lists.proofs.routes_sound.Statement.{statement}
 use Rattle.lists.proofs.routes_sound.Tie as tie
 
 abbrev Inv-loop : tie.InvT-loop
-Inv-loop w count n last₀ i₀ last i = Lists.Judging w n last i
+Inv-loop w count n last₀ i₀ last i = List.Judging w n last i
 
 abbrev μ-loop : tie.MeasureT-loop
 μ-loop w count n last₀ i₀ last i = n - i
@@ -17,13 +17,13 @@ element-copy-out-count : tie.Need-element-copy-out-count Inv-loop μ-loop
 element-copy-out-count c = search needs
 
 returns : tie.Need-returns Inv-loop μ-loop
-returns c = Lists.judge-over _ (c .if1 .taken)
+returns c = List.judge-over (c .before .before .args .w .now) (omega arith)
 
 before-all-requires : tie.Need-before-all-requires Inv-loop μ-loop
 before-all-requires c κs = search needs
 
 loop-holds : tie.Need-loop-holds Inv-loop μ-loop
-loop-holds c = Lists.judge _ (c .before-all .ensures) (c .before .if1 .left)
+loop-holds c = List.judge (c .before .before .before .args .w .now) (c .before-all .ensures) (omega arith)
 
 range-at-requires : tie.Need-range-at-requires Inv-loop μ-loop
 range-at-requires c κs = search needs
@@ -32,13 +32,20 @@ range-sound-requires : tie.Need-range-sound-requires Inv-loop μ-loop
 range-sound-requires c κs = search needs
 
 returns-2 : tie.Need-returns-2 Inv-loop μ-loop
-returns-2 c = Lists.judge-broken (c .before .before .before .before .loop .inv) (c .before .before .before .loop-test .taken) (c .before .before .range-at .ensures) (sym (c .before .range-sound .ensures) ∙ not-true _ (c .if2 .taken))
+returns-2 c =
+    let s = c .before .before in
+    List.judge-broken (s .before .before .loop .inv) (s .before .loop-test .taken) (s .range-at .ensures)
+    (called-false (c .before .range-sound .ensures) (c .if2 .taken))
 
 in-order-requires : tie.Need-in-order-requires Inv-loop μ-loop
 in-order-requires c κs = search needs
 
 returns-3 : tie.Need-returns-3 Inv-loop μ-loop
-returns-3 c = Lists.judge-unordered (c .before .before .before .before .before .before .loop .inv) (c .before .before .before .before .before .loop-test .taken) (c .before .before .before .before .range-at .ensures) (sym (c .before .before .before .range-sound .ensures) ∙ not-false _ (c .before .before .if2 .left)) (sym (c .before .in-order .ensures) ∙ not-true _ (c .if3 .taken))
+returns-3 c =
+    let s = c .before .before .before .before in
+    List.judge-unordered (s .before .before .loop .inv) (s .before .loop-test .taken) (s .range-at .ensures)
+    (called-true (c .before .before .before .range-sound .ensures) (c .before .before .if2 .left))
+    (called-false (c .before .in-order .ensures) (c .if3 .taken))
 
 add-i : tie.Need-add-i Inv-loop μ-loop
 add-i c = search needs
@@ -47,10 +54,14 @@ loop-less : tie.Need-loop-less Inv-loop μ-loop
 loop-less c = search needs
 
 loop-again : tie.Need-loop-again Inv-loop μ-loop
-loop-again c = Lists.judge-next (c .before .before .before .before .before .before .loop .inv) (c .before .before .before .before .before .loop-test .taken) (c .before .before .before .before .range-at .ensures) (sym (c .before .before .before .range-sound .ensures) ∙ not-false _ (c .before .before .if2 .left)) (sym (c .before .in-order .ensures) ∙ not-false _ (c .if3 .left))
+loop-again c =
+    let s = c .before .before .before .before in
+    List.judge-next (s .before .before .loop .inv) (s .before .loop-test .taken) (s .range-at .ensures)
+    (called-true (c .before .before .before .range-sound .ensures) (c .before .before .if2 .left))
+    (called-true (c .before .in-order .ensures) (c .if3 .left))
 
 returns-4 : tie.Need-returns-4 Inv-loop μ-loop
-returns-4 c = Lists.judge-end (c .before .loop .inv) (c .loop-test .left)
+returns-4 c = List.judge-end (c .before .loop .inv) (c .loop-test .left)
 
 pub routes-sound-spec : {M : Type 1} → statement M
 routes-sound-spec =

@@ -1,11 +1,13 @@
--- The loops over a list in words: where they start, and a turn over the ranges. Assumes nothing.
+-- The loops over a list in words: where each starts, and the turns of the one over neighbours. Assumes nothing.
 use Prim.Native.Nat.{ℕ, _+_, _-_, _≤_, _<_}
 use mathlib.Core.Bool.{Bool, true, false}
-use mathlib.Core.Path.{_≡_, refl}
-use mathlib.Core.List.{List, [], _∷_}
+use mathlib.Core.Path.{_≡_}
+use mathlib.Core.List.{List, []}
 use native.Mathlib.Nat.{sub-zero}
 use native.Mathlib.Omega.{arith}
-use borrow.Author.Tests.{le-leb, lt-leb}
+use borrow.Author.Tests.{le-leb, lt-leb, leb-true}
+use lib.Dec.{leb}
+use Rattle.answer.proofs.Tests.{and-both}
 use Rattle.lists.specs.declared.AddressEntry.{AddressEntry}
 use Rattle.lists.specs.declared.RouteRange.{RouteRange}
 use Rattle.lists.specs.Scan.{from, anyOf, allOf}
@@ -55,6 +57,19 @@ module _ (w : List ℕ) where
   unfolding soundAddresses
   check-entries-over h = simp (lt-leb (countOf w) maxAddresses h)
 
+  -- what sound lists are
+  pub addresses-facts : soundAddresses w ≡ true → (countOf w ≤ maxAddresses) × (allOf soundEntry (entriesOf w) ≡ true)
+  unfolding soundAddresses
+  addresses-facts s =
+      let f = and-both (leb (countOf w) maxAddresses) (allOf soundEntry (entriesOf w)) s in
+      (leb-true (countOf w) maxAddresses (f .0), f .1)
+
+  pub routes-facts : soundRoutes w ≡ true → (countOf w ≤ maxRanges) × (soundAfter beforeAll (rangesOf w) ≡ true)
+  unfolding soundRoutes
+  routes-facts s =
+      let f = and-both (leb (countOf w) maxRanges) (soundAfter beforeAll (rangesOf w)) s in
+      (leb-true (countOf w) maxRanges (f .0), f .1)
+
 -- the ranges before i are sound and the last of them is a: what those from i on say is the answer
 pub record Judging (w : List ℕ) (n : ℕ) (a : RouteRange) (i : ℕ) : Type 0 where
   pub within : i ≤ n
@@ -63,7 +78,8 @@ pub record Judging (w : List ℕ) (n : ℕ) (a : RouteRange) (i : ℕ) : Type 0 
 module _ (w : List ℕ) where
   pub judge : {a : RouteRange} → a ≡ beforeAll → countOf w ≤ maxRanges → Judging w (countOf w) a 0
   unfolding soundRoutes
-  judge q h = record { within = omega arith; rest = rw (q, le-leb (countOf w) maxRanges h, ranges-within w h, sub-zero) }
+  judge q h =
+      record { within = omega arith; rest = rw (q, le-leb (countOf w) maxRanges h, ranges-within w h, sub-zero) }
 
   pub judge-over : maxRanges < countOf w → false ≡ soundRoutes w
   unfolding soundRoutes
@@ -73,10 +89,12 @@ module _ {w : List ℕ} {n : ℕ} {a : RouteRange} {i : ℕ} (s : Judging w n a 
   pub judge-broken : {r : RouteRange} → i < n → r ≡ rangeAt w i → soundRange r ≡ false → false ≡ soundRoutes w
   judge-broken h q e = rw (from-more (rangeAt w) i n h, ← q, e) at (s .rest)
 
-  pub judge-unordered : {r : RouteRange} → i < n → r ≡ rangeAt w i → soundRange r ≡ true → inOrder a r ≡ false → false ≡ soundRoutes w
+  pub judge-unordered : {r : RouteRange} → i < n → r ≡ rangeAt w i → soundRange r ≡ true → inOrder a r ≡ false
+      → false ≡ soundRoutes w
   judge-unordered h q e g = rw (from-more (rangeAt w) i n h, ← q, e, g) at (s .rest)
 
-  pub judge-next : {r : RouteRange} → i < n → r ≡ rangeAt w i → soundRange r ≡ true → inOrder a r ≡ true → Judging w n r (i + 1)
+  pub judge-next : {r : RouteRange} → i < n → r ≡ rangeAt w i → soundRange r ≡ true → inOrder a r ≡ true
+      → Judging w n r (i + 1)
   judge-next h q e g = record { within = omega arith; rest = rw (from-more (rangeAt w) i n h, ← q, e, g) at (s .rest) }
 
   pub judge-end : n ≤ i → true ≡ soundRoutes w
