@@ -1,8 +1,9 @@
 -- An entry at the front of some bytes, by the code's cases, and what a reading of one says. Assumes nothing.
 use Prim.Native.Nat.{ℕ, _+_, _≤_, _<_}
-use mathlib.Core.Bool.{Bool, true, false, _&&_}
+use mathlib.Core.Bool.{Bool, true, _&&_}
 use mathlib.Core.Path.{_≡_, refl}
 use mathlib.Core.List.{List}
+use mathlib.Core.Logic.{⊎-elim}
 use native.Mathlib.Omega.{arith}
 use borrow.Author.Tests.{le-leb, lt-leb, ne-eqb, leb-true, eqb-true}
 use lib.Dec.{leb, eqb}
@@ -17,10 +18,7 @@ use Rattle.lists.specs.declared.AddressEntry.{AddressEntry}
 use Rattle.lists.specs.Rules.{soundEntry}
 use Rattle.capsule.specs.declared.element.EntryRead.the-variants.{Good, Bad}
 use Rattle.capsule.specs.Entries.{entry4, entry6, wholeEntry, readBody, afterId, readEntry}
-
-pub pick-same : {A : Type 0} (b : Bool) (x : A) → pick b x x ≡ x
-pick-same true x = refl
-pick-same false x = refl
+use Rattle.capsule.proofs.Picks.{pick-same, pick-case}
 
 -- ---- what follows a Request ID
 module _ (id n : ℕ) (t : List ℕ) where
@@ -64,16 +62,16 @@ pub record Body (n m : ℕ) (t : List ℕ) (e : AddressEntry) (size : ℕ) : Typ
   pub sound : soundEntry e ≡ true
   pub taken : size ≡ n + m
 
-module _ (n m : ℕ) (t : List ℕ) (d e : AddressEntry) (size : ℕ) where
-  picked : (b : Bool) → (leb m (length t) && soundEntry d) ≡ b → pick b (Good d (n + m)) Bad ≡ Good e size → (d ≡ e) × (Body n m t e size)
-  picked true q h =
-      let p = and-both (leb m (length t)) (soundEntry d) q in
-      let w : d ≡ e = cc in
-      (w, record { long = leb-true m (length t) (p .0); sound = rw w at (p .1); taken = cc })
-  picked false q h = let z : _≡_ {A = ℕ} 0 1 = cc in absurd (omega arith)
-
-  whole : wholeEntry n m t d ≡ Good e size → (d ≡ e) × (Body n m t e size)
-  whole h = picked (leb m (length t) && soundEntry d) refl h
+whole : (n m : ℕ) (t : List ℕ) (d e : AddressEntry) (size : ℕ) → wholeEntry n m t d ≡ Good e size → (d ≡ e) × (Body n m t e size)
+whole n m t d e size h =
+    ⊎-elim
+    (λ p.
+    let q = and-both (leb m (length t)) (soundEntry d) (p .0) in
+    let g = p .1 in
+    let w : d ≡ e = cc in
+    (w, record { long = leb-true m (length t) (q .0); sound = rw w at (q .1); taken = cc }))
+    (λ p. let g = p .1 in let z : _≡_ {A = ℕ} 0 1 = cc in absurd (omega arith))
+    (pick-case (leb m (length t) && soundEntry d) _ _ _ h)
 
 -- behind an ID an entry of version 4, or of version 6
 pub data BodyTaken (id n : ℕ) (t : List ℕ) (e : AddressEntry) (size : ℕ) : Type 0 where
@@ -89,15 +87,13 @@ pub record Taken (s : List ℕ) (e : AddressEntry) (size : ℕ) : Type 0 where
 module _ (id n : ℕ) (t : List ℕ) (e : AddressEntry) (size : ℕ) where
   body-taken : readBody id n t ≡ Good e size → BodyTaken id n t e size
   unfolding readBody
-  body-taken h = four (eqb (getD t 0 0) 4) refl h
-    where
-      six : (b : Bool) → eqb (getD t 0 0) 6 ≡ b → pick b (wholeEntry n 18 t (entry6 id t)) Bad ≡ Good e size → BodyTaken id n t e size
-      six true v q = let w = whole n 18 t (entry6 id t) e size q in ipv6 (eqb-true (getD t 0 0) 6 v) (w .0) (w .1)
-      six false v q = let z : _≡_ {A = ℕ} 0 1 = cc in absurd (omega arith)
-
-      four : (b : Bool) → eqb (getD t 0 0) 4 ≡ b → pick b (wholeEntry n 6 t (entry4 id t)) (pick (eqb (getD t 0 0) 6) (wholeEntry n 18 t (entry6 id t)) Bad) ≡ Good e size → BodyTaken id n t e size
-      four true v q = let w = whole n 6 t (entry4 id t) e size q in ipv4 (eqb-true (getD t 0 0) 4 v) (w .0) (w .1)
-      four false v q = six (eqb (getD t 0 0) 6) refl q
+  body-taken h =
+      ⊎-elim (λ p. let w = whole n 6 t (entry4 id t) e size (p .1) in ipv4 (eqb-true (getD t 0 0) 4 (p .0)) (w .0) (w .1))
+      (λ p.
+      ⊎-elim (λ q. let w = whole n 18 t (entry6 id t) e size (q .1) in ipv6 (eqb-true (getD t 0 0) 6 (q .0)) (w .0) (w .1))
+      (λ q. let g = q .1 in let z : _≡_ {A = ℕ} 0 1 = cc in absurd (omega arith))
+      (pick-case (eqb (getD t 0 0) 6) _ _ _ (p .1)))
+      (pick-case (eqb (getD t 0 0) 4) _ _ _ h)
 
   body-size : BodyTaken id n t e size → (n + 6 ≤ size) × (size ≤ n + length t)
   body-size (ipv4 v q w) = (omega (arith, w .taken), omega (arith, w .taken, w .long))

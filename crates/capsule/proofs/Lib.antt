@@ -1,3 +1,4 @@
+pub mod Picks
 pub mod EntryCases
 pub mod RangeCases
 pub mod Turn

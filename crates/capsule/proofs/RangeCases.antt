@@ -1,8 +1,9 @@
 -- A range at the front of some bytes, by the code's cases, and what a reading of one says. Assumes nothing.
 use Prim.Native.Nat.{ℕ, _≤_, _<_}
-use mathlib.Core.Bool.{Bool, true, false, _&&_}
-use mathlib.Core.Path.{_≡_, refl}
+use mathlib.Core.Bool.{Bool, true, _&&_}
+use mathlib.Core.Path.{_≡_}
 use mathlib.Core.List.{List}
+use mathlib.Core.Logic.{⊎-elim}
 use native.Mathlib.Omega.{arith}
 use borrow.Author.Tests.{le-leb, lt-leb, ne-eqb, leb-true, eqb-true}
 use lib.Dec.{leb, eqb}
@@ -13,7 +14,7 @@ use Rattle.lists.specs.declared.RouteRange.{RouteRange}
 use Rattle.lists.specs.Rules.{soundRange}
 use Rattle.capsule.specs.declared.element.RangeRead.the-variants.{Good, Bad}
 use Rattle.capsule.specs.Entries.{range4, range6, wholeRange, readRange}
-use Rattle.capsule.proofs.EntryCases.{pick-same}
+use Rattle.capsule.proofs.Picks.{pick-same, pick-case}
 
 module _ (s : List ℕ) where
   pub short : length s < 10 → Bad ≡ readRange s
@@ -44,16 +45,16 @@ pub record Whole (m : ℕ) (s : List ℕ) (r : RouteRange) (size : ℕ) : Type 0
   pub sound : soundRange r ≡ true
   pub taken : size ≡ m
 
-module _ (m : ℕ) (s : List ℕ) (d r : RouteRange) (size : ℕ) where
-  picked : (b : Bool) → (leb m (length s) && soundRange d) ≡ b → pick b (Good d m) Bad ≡ Good r size → (d ≡ r) × (Whole m s r size)
-  picked true q h =
-      let p = and-both (leb m (length s)) (soundRange d) q in
-      let w : d ≡ r = cc in
-      (w, record { long = leb-true m (length s) (p .0); sound = rw w at (p .1); taken = cc })
-  picked false q h = let z : _≡_ {A = ℕ} 0 1 = cc in absurd (omega arith)
-
-  whole : wholeRange m s d ≡ Good r size → (d ≡ r) × (Whole m s r size)
-  whole h = picked (leb m (length s) && soundRange d) refl h
+whole : (m : ℕ) (s : List ℕ) (d r : RouteRange) (size : ℕ) → wholeRange m s d ≡ Good r size → (d ≡ r) × (Whole m s r size)
+whole m s d r size h =
+    ⊎-elim
+    (λ p.
+    let q = and-both (leb m (length s)) (soundRange d) (p .0) in
+    let g = p .1 in
+    let w : d ≡ r = cc in
+    (w, record { long = leb-true m (length s) (q .0); sound = rw w at (q .1); taken = cc }))
+    (λ p. let g = p .1 in let z : _≡_ {A = ℕ} 0 1 = cc in absurd (omega arith))
+    (pick-case (leb m (length s) && soundRange d) _ _ _ h)
 
 -- a range of version 4, or of version 6
 pub data Taken (s : List ℕ) (r : RouteRange) (size : ℕ) : Type 0 where
@@ -63,15 +64,13 @@ pub data Taken (s : List ℕ) (r : RouteRange) (size : ℕ) : Type 0 where
 module _ (s : List ℕ) (r : RouteRange) (n : ℕ) where
   pub taken : readRange s ≡ Good r n → Taken s r n
   unfolding readRange
-  taken h = four (eqb (getD s 0 0) 4) refl h
-    where
-      six : (b : Bool) → eqb (getD s 0 0) 6 ≡ b → pick b (wholeRange 34 s (range6 s)) Bad ≡ Good r n → Taken s r n
-      six true e q = let w = whole 34 s (range6 s) r n q in ipv6 (eqb-true (getD s 0 0) 6 e) (w .0) (w .1)
-      six false e q = let z : _≡_ {A = ℕ} 0 1 = cc in absurd (omega arith)
-
-      four : (b : Bool) → eqb (getD s 0 0) 4 ≡ b → pick b (wholeRange 10 s (range4 s)) (pick (eqb (getD s 0 0) 6) (wholeRange 34 s (range6 s)) Bad) ≡ Good r n → Taken s r n
-      four true e q = let w = whole 10 s (range4 s) r n q in ipv4 (eqb-true (getD s 0 0) 4 e) (w .0) (w .1)
-      four false e q = six (eqb (getD s 0 0) 6) refl q
+  taken h =
+      ⊎-elim (λ p. let w = whole 10 s (range4 s) r n (p .1) in ipv4 (eqb-true (getD s 0 0) 4 (p .0)) (w .0) (w .1))
+      (λ p.
+      ⊎-elim (λ q. let w = whole 34 s (range6 s) r n (q .1) in ipv6 (eqb-true (getD s 0 0) 6 (q .0)) (w .0) (w .1))
+      (λ q. let g = q .1 in let z : _≡_ {A = ℕ} 0 1 = cc in absurd (omega arith))
+      (pick-case (eqb (getD s 0 0) 6) _ _ _ (p .1)))
+      (pick-case (eqb (getD s 0 0) 4) _ _ _ h)
 
   sized : Taken s r n → (1 ≤ n) × (n ≤ length s)
   sized (ipv4 v e w) = (omega (arith, w .taken), omega (arith, w .taken, w .long))

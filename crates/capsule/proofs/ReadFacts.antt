@@ -1,13 +1,13 @@
 -- What a capsule that was read says: its frame, its value by its type, and its size. Assumes nothing.
 use Prim.Native.Nat.{ℕ, _+_, _<_}
-use mathlib.Core.Bool.{Bool, true, false}
+use mathlib.Core.Bool.{true, false}
 use mathlib.Core.Path.{_≡_, refl}
 use mathlib.Core.List.{List}
+use mathlib.Core.Logic.{⊎-elim}
 use native.Mathlib.Omega.{arith}
 use borrow.Author.Tests.{eqb-true, eqb-false}
 use lib.Dec.{eqb}
 use lib.ListN.{length, take, drop, length-take, length-drop}
-use Rattle.answer.specs.Choice.{pick}
 use Rattle.lists.specs.declared.AddressEntry.{AddressEntry}
 use Rattle.lists.specs.declared.RouteRange.{RouteRange}
 use Rattle.lists.specs.Words.{maxAddresses, maxRanges}
@@ -15,6 +15,7 @@ use Rattle.capsule.specs.declared.FrameRead.{FrameRead}
 use Rattle.capsule.specs.Elements.{Parsed, fault, all, elementsIn}
 use Rattle.capsule.specs.Entries.{entryFormat, rangeFormat}
 use Rattle.capsule.specs.Capsules.{Capsule, datagram, assign, request, advertise, unknown, capsule, listed, readValue, inFrame, frameOf, readCapsule}
+use Rattle.capsule.proofs.Picks.{pick-case}
 use Rattle.capsule.proofs.FrameCases as Frame
 
 -- the capsule of a value v, by its type
@@ -35,47 +36,29 @@ module _ (kind : ℕ) (v : List ℕ) (start : ℕ) (c : Capsule) (a z : ℕ) whe
   made : (d : Capsule) → Taken kind v d → capsule d start (start + length v) ≡ capsule c a z → ValueFacts kind v start c a z
   made d t e = let w : d ≡ c = cc in record { taken = rw w at t; starts = cc; ends = cc }
 
-  of-list : {A : Type 0} (f : List A → Capsule) (p q : Parsed A) → q ≡ p → ((xs : List A) → q ≡ all xs → Taken kind v (f xs))
+  of-list : {A : Type 0} (f : List A → Capsule) (p : Parsed A) → ((xs : List A) → p ≡ all xs → Taken kind v (f xs))
       → listed f start (start + length v) p ≡ capsule c a z → ValueFacts kind v start c a z
-  of-list f (fault r) q g t e = let w : _≡_ {A = ℕ} 0 1 = cc in absurd (omega arith)
-  of-list f (all xs) q g t e = made (f xs) (t xs g) e
+  of-list f (fault r) t e = let w : _≡_ {A = ℕ} 0 1 = cc in absurd (omega arith)
+  of-list f (all xs) t e = made (f xs) (t xs refl) e
 
   pub value-facts : readValue kind v start ≡ capsule c a z → ValueFacts kind v start c a z
   unfolding readValue
-  value-facts e = zeroth (eqb kind 0) refl e
+  value-facts e =
+      ⊎-elim (λ p. made (datagram v) (is-datagram (eqb-true kind 0 (p .0))) (p .1))
+      (λ p.
+      ⊎-elim (λ q. of-list assign (elementsIn (entryFormat false) false maxAddresses v) (λ es g. is-assign (eqb-true kind 1 (q .0)) g) (q .1))
+      (λ q.
+      ⊎-elim (λ r. of-list request (elementsIn (entryFormat true) true maxAddresses v) (λ es g. is-request (eqb-true kind 2 (r .0)) g) (r .1))
+      (λ r.
+      ⊎-elim (λ t. of-list advertise (elementsIn rangeFormat false maxRanges v) (λ rs g. is-advertise (eqb-true kind 3 (t .0)) g) (t .1))
+      (λ t. made unknown (is-unknown (past (p .0) (q .0) (r .0) (t .0))) (t .1))
+      (pick-case (eqb kind 3) _ _ _ (r .1)))
+      (pick-case (eqb kind 2) _ _ _ (q .1)))
+      (pick-case (eqb kind 1) _ _ _ (p .1)))
+      (pick-case (eqb kind 0) _ _ _ e)
     where
-      other : eqb kind 0 ≡ false → eqb kind 1 ≡ false → eqb kind 2 ≡ false → eqb kind 3 ≡ false → 3 < kind
-      other a b c d = omega (arith, eqb-false kind 0 a, eqb-false kind 1 b, eqb-false kind 2 c, eqb-false kind 3 d)
-
-      third : eqb kind 0 ≡ false → eqb kind 1 ≡ false → eqb kind 2 ≡ false → (b : Bool) → eqb kind 3 ≡ b
-          → pick b (listed advertise start (start + length v) (elementsIn rangeFormat false maxRanges v)) (capsule unknown start (start + length v)) ≡ capsule c a z
-          → ValueFacts kind v start c a z
-      third n0 n1 n2 true k e = of-list advertise (elementsIn rangeFormat false maxRanges v) (elementsIn rangeFormat false maxRanges v) refl (λ xs g. is-advertise (eqb-true kind 3 k) g) e
-      third n0 n1 n2 false k e = made unknown (is-unknown (other n0 n1 n2 k)) e
-
-      second : eqb kind 0 ≡ false → eqb kind 1 ≡ false → (b : Bool) → eqb kind 2 ≡ b
-          → pick b (listed request start (start + length v) (elementsIn (entryFormat true) true maxAddresses v))
-          (pick (eqb kind 3) (listed advertise start (start + length v) (elementsIn rangeFormat false maxRanges v)) (capsule unknown start (start + length v))) ≡ capsule c a z
-          → ValueFacts kind v start c a z
-      second n0 n1 true k e = of-list request (elementsIn (entryFormat true) true maxAddresses v) (elementsIn (entryFormat true) true maxAddresses v) refl (λ xs g. is-request (eqb-true kind 2 k) g) e
-      second n0 n1 false k e = third n0 n1 k (eqb kind 3) refl e
-
-      first : eqb kind 0 ≡ false → (b : Bool) → eqb kind 1 ≡ b
-          → pick b (listed assign start (start + length v) (elementsIn (entryFormat false) false maxAddresses v))
-          (pick (eqb kind 2) (listed request start (start + length v) (elementsIn (entryFormat true) true maxAddresses v))
-          (pick (eqb kind 3) (listed advertise start (start + length v) (elementsIn rangeFormat false maxRanges v)) (capsule unknown start (start + length v)))) ≡ capsule c a z
-          → ValueFacts kind v start c a z
-      first n0 true k e = of-list assign (elementsIn (entryFormat false) false maxAddresses v) (elementsIn (entryFormat false) false maxAddresses v) refl (λ xs g. is-assign (eqb-true kind 1 k) g) e
-      first n0 false k e = second n0 k (eqb kind 2) refl e
-
-      zeroth : (b : Bool) → eqb kind 0 ≡ b
-          → pick b (capsule (datagram v) start (start + length v))
-          (pick (eqb kind 1) (listed assign start (start + length v) (elementsIn (entryFormat false) false maxAddresses v))
-          (pick (eqb kind 2) (listed request start (start + length v) (elementsIn (entryFormat true) true maxAddresses v))
-          (pick (eqb kind 3) (listed advertise start (start + length v) (elementsIn rangeFormat false maxRanges v)) (capsule unknown start (start + length v))))) ≡ capsule c a z
-          → ValueFacts kind v start c a z
-      zeroth true k e = made (datagram v) (is-datagram (eqb-true kind 0 k)) e
-      zeroth false k e = first k (eqb kind 1) refl e
+      past : eqb kind 0 ≡ false → eqb kind 1 ≡ false → eqb kind 2 ≡ false → eqb kind 3 ≡ false → 3 < kind
+      past p q r t = omega (arith, eqb-false kind 0 p, eqb-false kind 1 q, eqb-false kind 2 r, eqb-false kind 3 t)
 
 -- a capsule that was read: type and length in n and m bytes, and the value behind them
 pub record Read (s : List ℕ) (c : Capsule) (start size : ℕ) : Type 0 where

@@ -29,7 +29,7 @@ use Rattle.capsule.proofs.EntryBytes.{entries-lawful}
 use Rattle.capsule.proofs.RangeBytes.{ranges-lawful}
 use Rattle.capsule.proofs.ReadFacts.{Taken, is-datagram, is-assign, is-request, is-advertise, is-unknown, read-facts}
 
--- ---- within the bytes: its size is that of type, length and value
+-- ---- within the bytes: its size is that of type, length and value, of which `read-facts` tells
 module _ (s : List ℕ) (c : Capsule) (start size : ℕ) (e : readCapsule s ≡ capsule c start size) where
   pub read-within : (2 ≤ size) × (size ≤ length s)
   read-within =
@@ -38,6 +38,9 @@ module _ (s : List ℕ) (c : Capsule) (start size : ℕ) (e : readCapsule s ≡ 
       let a = Number.taken s (r .kind) (f .n) (f .type) in
       let b = Number.taken (drop (f .n) s) (r .count) (f .m) (f .count) in
       (omega (arith, r .ends, f .starts, a .some, b .some), omega (arith, r .ends, f .there))
+
+  pub read-size : size ≡ read-facts s c start size e .framed .n + read-facts s c start size e .framed .m + read-facts s c start size e .count
+  read-size = let r = read-facts s c start size e in omega (arith, r .ends, r .framed .starts)
 
 -- ---- the rules
 value-sound : (kind : ℕ) (v : List ℕ) (c : Capsule) → (kind ≤ 3 → length v ≤ maxValue) → Taken kind v c → Sound c

@@ -1,14 +1,15 @@
 -- A capsule that is written is read back, whatever follows; and one that is read with every number in its shortest form is what would be
 -- written. The frame is that of two numbers; the value is by the laws of lists. Assumes nothing.
-use Prim.Native.Nat.{ℕ, suc, _+_, _≤_}
+use Prim.Native.Nat.{ℕ, suc, _+_, _^_, _≤_}
 use mathlib.Core.Bool.{true, false, _&&_}
 use mathlib.Core.Path.{_≡_, refl, sym, ap, _∙_}
-use mathlib.Core.List.{List, _++_, append-assoc}
+use mathlib.Core.List.{List, [], _++_, append-assoc}
+use mathlib.Core.Logic.{⊎-elim}
 use native.Mathlib.Omega.{arith}
 use borrow.Author.Tests.{eqb-true}
 use lib.ListN.{length, take, drop, length-append, length-take, length-drop}
 use lib.Seq.{take-append-seam, take-at, take-add, drop-at, drop-drop}
-use Rattle.answer.proofs.Tests.{and-both}
+use Rattle.answer.proofs.Tests.{and-both, order}
 use Rattle.octets.specs.Big.{Bytes}
 use Rattle.octets.proofs.BigLaws as Big
 use Rattle.varint.specs.Numbers.{readNumber, encode, encodedSize, shortest}
@@ -20,7 +21,7 @@ use Rattle.lists.specs.Words.{maxAddresses, maxRanges}
 use Rattle.capsule.specs.Elements.{written}
 use Rattle.capsule.specs.Entries.{entryFormat, rangeFormat}
 use Rattle.capsule.specs.Capsules.{maxValue, Capsule, datagram, assign, request, advertise, unknown, capsule, readValue, frameOf, readCapsule, frameBytes, capsuleBytes}
-use Rattle.capsule.specs.Sound.{startOf, Ruled, Sound, sound-datagram, sound-assign, sound-request, sound-advertise, sound-unknown, inWords}
+use Rattle.capsule.specs.Sound.{valueOf, startOf, Ruled, Sound, sound-datagram, sound-assign, sound-request, sound-advertise, sound-unknown, inWords}
 use Rattle.capsule.specs.Shortest.{shortestFront, behindNumber, everyElement, shortestIds, shortestValue, shortestCapsule}
 use Rattle.capsule.proofs.FrameCases as Frame
 use Rattle.capsule.proofs.Parsing as Parsing
@@ -86,24 +87,42 @@ module _ (start : ℕ) where
   unfolding readValue
   value-advertise rs r w = rw (Parsing.read-written ranges-lawful false maxRanges rs r w)
 
+-- the value of a capsule that keeps the rules is within the limit
+pub value-within : (c : Capsule) → Sound c → length (valueOf c) ≤ maxValue
+value-within c (sound-datagram h) = h
+value-within c (sound-assign {es} r) = omega (arith, Parsing.length-written (entries-lawful false) es, Parsing.ruled-within r)
+value-within c (sound-request {es} r) = omega (arith, Parsing.length-written (entries-lawful true) es, Parsing.ruled-within r)
+value-within c (sound-advertise {rs} r) = omega (arith, Parsing.length-written ranges-lawful rs, Parsing.ruled-within r)
+value-within c sound-unknown = omega arith
+
 -- a capsule that keeps the rules, written and then read
 pub read-written : (c : Capsule) (rest : List ℕ) → Sound c → inWords c ≡ true → (c ≡ unknown → ⊥)
     → readCapsule (capsuleBytes c ++ rest) ≡ capsule c (startOf c) (length (capsuleBytes c))
 unfolding capsuleBytes
 read-written c rest (sound-datagram {v} h) w k = read-frame 0 v rest (omega arith) h (datagram v) (value-datagram _ v)
 read-written c rest (sound-assign {es} r) w k =
-    let a = Parsing.length-written (entries-lawful false) es in
-    let b = Parsing.ruled-within r in
-    read-frame 1 (written (entryFormat false) es) rest (omega arith) (omega arith) (assign es) (value-assign _ es r w)
+    read-frame 1 (written (entryFormat false) es) rest (omega arith) (value-within c (sound-assign r)) (assign es) (value-assign _ es r w)
 read-written c rest (sound-request {es} r) w k =
-    let a = Parsing.length-written (entries-lawful true) es in
-    let b = Parsing.ruled-within r in
-    read-frame 2 (written (entryFormat true) es) rest (omega arith) (omega arith) (request es) (value-request _ es r w)
+    read-frame 2 (written (entryFormat true) es) rest (omega arith) (value-within c (sound-request r)) (request es) (value-request _ es r w)
 read-written c rest (sound-advertise {rs} r) w k =
-    let a = Parsing.length-written ranges-lawful rs in
-    let b = Parsing.ruled-within r in
-    read-frame 3 (written rangeFormat rs) rest (omega arith) (omega arith) (advertise rs) (value-advertise _ rs r w)
+    read-frame 3 (written rangeFormat rs) rest (omega arith) (value-within c (sound-advertise r)) (advertise rs) (value-advertise _ rs r w)
 read-written c rest sound-unknown w k = absurd (k refl)
+
+-- its type takes one byte, and its length two at most
+length-most : (kind : ℕ) (v : List ℕ) → kind ≤ 3 → length v ≤ maxValue → length (frameBytes kind v) ≤ 3 + maxValue
+length-most kind v h l =
+    let a : encodedSize kind ≡ 1 = Encoding.size-one kind (omega arith) in
+    let b : encodedSize (length v) ≤ 2 =
+    ⊎-elim (λ g. omega (arith, Encoding.size-one (length v) g)) (λ g. omega (arith, Encoding.size-two (length v) g (omega arith))) (order (length v) (2 ^ 6)) in
+    omega (arith, length-frame kind v [] h l)
+
+pub capsule-within : (c : Capsule) → Sound c → length (capsuleBytes c) ≤ 3 + maxValue
+unfolding capsuleBytes
+capsule-within c (sound-datagram {v} h) = length-most 0 v (omega arith) h
+capsule-within c (sound-assign {es} r) = length-most 1 (written (entryFormat false) es) (omega arith) (value-within c (sound-assign r))
+capsule-within c (sound-request {es} r) = length-most 2 (written (entryFormat true) es) (omega arith) (value-within c (sound-request r))
+capsule-within c (sound-advertise {rs} r) = length-most 3 (written rangeFormat rs) (omega arith) (value-within c (sound-advertise r))
+capsule-within c sound-unknown = omega arith
 
 -- ---- read, then written
 module _ (s : List ℕ) (h : Bytes s) (kind start count : ℕ) (f : Frame.Framed s kind start count) where

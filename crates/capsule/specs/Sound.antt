@@ -15,7 +15,7 @@ use Rattle.capsule.specs.Elements.{Format, judged, countVerdict, written
 use Rattle.capsule.specs.Entries.{entryFormat, rangeFormat}
 use Rattle.capsule.specs.Capsules.{maxValue, Capsule, datagram, assign, request, advertise, unknown}
 
--- ---- the parts of a capsule as it is written
+-- ---- the parts of a capsule as it is written: 0 to 3, since no other type is
 
 abbrev pub kindOf : Capsule → ℕ
 kindOf (datagram v) = 0

@@ -15,7 +15,7 @@ use lists::AddressList;
 use lists::RouteList;
 use varint::NumberRead;
 ghost use mathlib.Core.Path.{_≡_};
-ghost use Prim.Native.Nat.{_+_, _<_, _≤_, _^_};
+ghost use Prim.Native.Nat.{_≤_};
 ghost use lib.ListN.{length};
 ghost use Rattle.capsule.specs.Capsules.{maxValue, frameOf, frameAt, readValue};
 ghost use Rattle.capsule.specs.Results.{outcomeNumber, nextPlace, alone, resultAt, readAt, addressResult, routeResult, ValueAt};

@@ -73,7 +73,7 @@ mul-ids : tie.Need-mul-ids Inv-loop μ-loop
 mul-ids c = search needs
 
 array-write-ids : tie.Need-array-write-ids Inv-loop μ-loop
-array-write-ids c = T.id-room (c .before .before .before .before .before .before .before .before .loop .inv) (omega arith) _ _ (got c) (omega arith)
+array-write-ids c = omega (arith, T.id-room (c .before .before .before .before .before .before .before .before .loop .inv) (omega arith) _ _ (got c) (omega arith))
 
 put-entry-requires : tie.Need-put-entry-requires Inv-loop μ-loop
 put-entry-requires c κs = search needs
