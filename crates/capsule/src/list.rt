@@ -53,7 +53,8 @@ pub(crate) fn read_entries(value: &[u8], request: bool) -> EntriesRead
                         return no_entries(Refusal::BadRequestId);
                     }
                 }
-                ids[count] = id.0;
+                let slot = count;
+                ids[slot] = id.0;
                 if count < MAX_ADDRESSES {
                     lists::put_entry(&mut words, count, entry);
                 }
