@@ -1,7 +1,7 @@
 -- The loops that judge a list element by element: what the elements from i on say, after those before, is the verdict. Assumes nothing.
 use Prim.Native.Nat.{ℕ, zero, suc, _+_, _-_, _<_, _≤_, min}
 use mathlib.Core.Bool.{Bool, true, false, not, _&&_, _||_}
-use mathlib.Core.Path.{_≡_, refl, sym, ap, _∙_}
+use mathlib.Core.Path.{_≡_, refl, ap, _∙_}
 use mathlib.Core.List.{List, [], _∷_}
 use native.Mathlib.Nat.{sub-zero, not-suc-le-zero}
 use native.Mathlib.Numerals.{add-one, sub-one}
@@ -15,7 +15,7 @@ use Rattle.answer.specs.declared.Verdict.the-variants.{Go, Stop}
 use Rattle.lists.specs.declared.AddressEntry.{AddressEntry}
 use Rattle.lists.specs.declared.RouteRange.{RouteRange}
 use Rattle.lists.specs.Scan.{from, anyOf}
-use Rattle.lists.specs.Rules.{idOf, inOrder, beforeAll}
+use Rattle.lists.specs.Rules.{idOf, inOrder}
 use Rattle.lists.specs.Words.{maxAddresses, maxRanges, countOf, entryAt, rangeAt}
 use Rattle.lists.proofs.Scans.{from-more, from-end}
 use Rattle.capsule.specs.Elements.{Format, judged, countVerdict}

@@ -1,14 +1,12 @@
 -- The bytes of an element part by part, and how many they are. Assumes nothing.
 use Prim.Native.Nat.{ℕ, _+_, _≤_}
-use mathlib.Core.Path.{_≡_, refl, ap, _∙_}
+use mathlib.Core.Path.{_≡_, ap, _∙_}
 use mathlib.Core.List.{List, [], _∷_, _++_}
 use mathlib.Core.Logic.{_⊎_, inl, inr, ⊎-elim}
-use mathlib.Core.Bool.{Bool, true, false}
 use native.Mathlib.Omega.{arith}
 use borrow.Author.Tests.{eq-eqb, ne-eqb, eqb-true, eqb-false}
 use lib.Dec.{eqb}
 use lib.ListN.{length, length-append}
-use Rattle.answer.specs.Choice.{pick}
 use Rattle.answer.proofs.Tests.{true-or-false}
 use Rattle.octets.specs.Big.{digits}
 use Rattle.octets.proofs.BigLaws.{length-digits}

@@ -4,3 +4,4 @@ pub mod Lengths
 pub mod Values
 pub mod Frames
 pub mod Accepted
+pub mod ReadBack

@@ -1,7 +1,6 @@
 -- By the version, `length-range4` or `length-range6`.
 use native.Mathlib.Omega.{arith}
 use Rattle.capsule_write.proofs.Lengths.{length-range4, length-range6}
-use borrow.Author.Needs.{needs}
 use Rattle.capsule_write.proofs.element.range_size.Statement.{statement}
 use Rattle.capsule_write.proofs.element.range_size.Tie as tie
 

@@ -1,7 +1,6 @@
 -- The cases of `countVerdict`: none, over the limit, within it.
 use native.Mathlib.Omega.{arith}
 use Rattle.capsule_write.proofs.Judging as Judging
-use borrow.Author.Needs.{needs}
 use Rattle.capsule_write.proofs.judge.count_verdict.Statement.{statement}
 use Rattle.capsule_write.proofs.judge.count_verdict.Tie as tie
 

@@ -1,3 +1,4 @@
+use native.Mathlib.Omega.{arith}
 -- The entries before i are looked at from the newest on; the invariant is that what is left of them gives the answer (`Looking`).
 use Rattle.capsule_write.proofs.Judging as Judging
 use borrow.Author.Needs.{needs}
@@ -33,17 +34,17 @@ entry-at-requires c κs = search needs
 
 returns-3 : tie.Need-returns-3 Inv-loop μ-loop
 returns-3 c =
-    Judging.look-hit (c .before .before .before .before .before .loop .inv) (c .before .before .before .before .loop-test .taken) (c .before .before .before .entry-at .ensures) (c .if3 .taken)
+    Judging.look-hit (c .before .before .before .before .before .loop .inv) (omega arith) (c .before .before .before .entry-at .ensures) (c .if3 .taken)
 
 loop-less : tie.Need-loop-less Inv-loop μ-loop
 loop-less c = search needs
 
 loop-again : tie.Need-loop-again Inv-loop μ-loop
 loop-again c =
-    Judging.look-next (c .before .before .before .before .before .loop .inv) (c .before .before .before .before .loop-test .taken) (c .before .before .before .entry-at .ensures) (c .if3 .left)
+    Judging.look-next (c .before .before .before .before .before .loop .inv) (omega arith) (c .before .before .before .entry-at .ensures) (c .if3 .left)
 
 returns-4 : tie.Need-returns-4 Inv-loop μ-loop
-returns-4 c = Judging.look-end (c .before .loop .inv) (c .loop-test .left)
+returns-4 c = Judging.look-end (c .before .loop .inv) (omega arith)
 
 pub id-refused-spec : {M : Type 1} → statement M
 id-refused-spec =
