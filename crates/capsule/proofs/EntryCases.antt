@@ -1,7 +1,7 @@
 -- An entry at the front of some bytes, by the code's cases, and what a reading of one says. Assumes nothing.
 use Prim.Native.Nat.{ℕ, _+_, _≤_, _<_}
 use mathlib.Core.Bool.{Bool, true, false, _&&_}
-use mathlib.Core.Path.{_≡_, refl, sym, ap, _∙_}
+use mathlib.Core.Path.{_≡_, refl}
 use mathlib.Core.List.{List}
 use native.Mathlib.Omega.{arith}
 use borrow.Author.Tests.{le-leb, lt-leb, ne-eqb, leb-true, eqb-true}
@@ -9,14 +9,12 @@ use lib.Dec.{leb, eqb}
 use lib.ListN.{length, getD, drop, length-drop}
 use Rattle.answer.specs.Choice.{pick}
 use Rattle.answer.proofs.Tests.{and-both}
-use Rattle.octets.specs.Big.{bigAt}
 use Rattle.varint.specs.declared.NumberRead.{NumberRead}
 use Rattle.varint.specs.declared.NumberRead.the-variants.{Whole, Cut}
 use Rattle.varint.specs.Numbers.{readNumber}
 use Rattle.varint.proofs.Reading as Number
 use Rattle.lists.specs.declared.AddressEntry.{AddressEntry}
 use Rattle.lists.specs.Rules.{soundEntry}
-use Rattle.capsule.specs.declared.element.EntryRead.{EntryRead}
 use Rattle.capsule.specs.declared.element.EntryRead.the-variants.{Good, Bad}
 use Rattle.capsule.specs.Entries.{entry4, entry6, wholeEntry, readBody, afterId, readEntry}
 

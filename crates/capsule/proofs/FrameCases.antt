@@ -1,13 +1,14 @@
 -- Type and length of a capsule, by the code's cases. Assumes nothing.
-use Prim.Native.Nat.{ℕ, _+_, _-_, _≤_, _<_}
+use Prim.Native.Nat.{ℕ, _+_, _≤_, _<_}
 use mathlib.Core.Bool.{Bool, true, false, _&&_, and-false}
-use mathlib.Core.Path.{_≡_, refl, sym, ap, _∙_}
-use mathlib.Core.List.{List}
+use mathlib.Core.Path.{_≡_, refl, sym, _∙_}
+use mathlib.Core.List.{List, _++_}
 use mathlib.Core.Logic.{_⊎_, inl, inr, ⊎-elim}
 use native.Mathlib.Omega.{arith}
-use borrow.Author.Tests.{le-leb, lt-leb, lt-ltb, le-ltb, leb-true, leb-false, ltb-false}
+use borrow.Author.Tests.{le-leb, lt-leb, lt-ltb, le-ltb, leb-true, ltb-true, ltb-false}
 use lib.Dec.{leb, ltb}
-use lib.ListN.{length, drop, length-drop}
+use lib.ListN.{length, drop, length-drop, length-append}
+use lib.Seq.{drop-append-le}
 use Rattle.answer.specs.declared.Refusal.the-variants.{Incomplete, TooLong}
 use Rattle.varint.specs.declared.NumberRead.{NumberRead}
 use Rattle.varint.specs.declared.NumberRead.the-variants.{Whole, Cut}
@@ -67,47 +68,90 @@ pub record Framed (s : List ℕ) (kind start size : ℕ) : Type 0 where
   pub there : start + size ≤ length s
   pub short : kind ≤ 3 → size ≤ maxValue
 
--- the tests that a frame at a place has passed
-module _ (s : List ℕ) (kind start size k a z : ℕ) where
-  within : (b : Bool) → leb (start + size) (length s) ≡ b → pick b (Value kind start size) (Refused Incomplete) ≡ Value k a z
-      → (start + size ≤ length s) × (kind ≡ k) × (start ≡ a) × (size ≡ z)
-  within true e q = (leb-true (start + size) (length s) e, cc, cc, cc)
-  within false e q = let w : _≡_ {A = ℕ} 0 1 = cc in absurd (omega arith)
+-- the three answers
+pub data FrameCase (s : List ℕ) : FrameRead → Type 0 where
+  there : {kind start size : ℕ} → Framed s kind start size → FrameCase s (Value kind start size)
+  long : {kind n size m : ℕ} → readNumber s ≡ Whole kind n → readNumber (drop n s) ≡ Whole size m → kind ≤ 3 → maxValue < size
+      → FrameCase s (Refused TooLong)
+  lacking : FrameCase s (Refused Incomplete)
 
-  shortened : (leb kind 3 && ltb maxValue size) ≡ false → kind ≤ 3 → size ≤ maxValue
-  shortened e h = ltb-false maxValue size (rw (le-leb kind 3 h) at e)
-
-  passed : frameAt s kind start size ≡ Value k a z
-      → (start + size ≤ length s) × (kind ≡ k) × (start ≡ a) × (size ≡ z) × (kind ≤ 3 → size ≤ maxValue)
-  passed q = long (leb kind 3 && ltb maxValue size) refl q
+module _ (s : List ℕ) where
+  at-case : (kind n size m : ℕ) → readNumber s ≡ Whole kind n → readNumber (drop n s) ≡ Whole size m → FrameCase s (frameAt s kind (n + m) size)
+  at-case kind n size m e g = limited (leb kind 3 && ltb maxValue size) refl
     where
-      long : (b : Bool) → (leb kind 3 && ltb maxValue size) ≡ b
-          → pick b (Refused TooLong) (pick (leb (start + size) (length s)) (Value kind start size) (Refused Incomplete)) ≡ Value k a z
-          → (start + size ≤ length s) × (kind ≡ k) × (start ≡ a) × (size ≡ z) × (kind ≤ 3 → size ≤ maxValue)
-      long true e g = let w : _≡_ {A = ℕ} 0 1 = cc in absurd (omega arith)
-      long false e g = let w = within (leb (start + size) (length s)) refl g in (w .0, w .1, w .2, w .3, shortened e)
-
-module _ (s : List ℕ) (kind start size : ℕ) where
-  pub frame-facts : frameOf s ≡ Value kind start size → Framed s kind start size
-  unfolding frameOf
-  frame-facts q = typed (readNumber s) refl q
-    where
-      counted : (k n : ℕ) → readNumber s ≡ Whole k n → (r : NumberRead) → readNumber (drop n s) ≡ r → afterLength s k n r ≡ Value kind start size → Framed s kind start size
-      counted k n e (Whole l m) f g =
-          let p = passed s k (n + m) l kind start size g in
-          let z : l ≡ size = p .3 in
-          let x : k ≡ kind = p .1 in
-          record {
+      within : (leb kind 3 && ltb maxValue size) ≡ false → (b : Bool) → leb (n + m + size) (length s) ≡ b
+          → FrameCase s (pick b (Value kind (n + m) size) (Refused Incomplete))
+      within f true t =
+          there (record {
             n = n;
             m = m;
-            type = rw x at e;
-            count = rw z at f;
-            starts = sym (p .2);
-            there = omega (arith, p .0, p .2);
-            short = λ h. omega (arith, p .4 (omega arith));
-          }
-      counted k n e Cut f g = let w : _≡_ {A = ℕ} 0 1 = cc in absurd (omega arith)
+            type = e;
+            count = g;
+            starts = refl;
+            there = leb-true (n + m + size) (length s) t;
+            short = λ h. ltb-false maxValue size (rw (le-leb kind 3 h) at f);
+          })
+      within f false t = lacking
 
-      typed : (r : NumberRead) → readNumber s ≡ r → afterType s r ≡ Value kind start size → Framed s kind start size
-      typed (Whole k n) e g = counted k n e (readNumber (drop n s)) refl g
-      typed Cut e g = let w : _≡_ {A = ℕ} 0 1 = cc in absurd (omega arith)
+      limited : (b : Bool) → (leb kind 3 && ltb maxValue size) ≡ b
+          → FrameCase s (pick b (Refused TooLong) (pick (leb (n + m + size) (length s)) (Value kind (n + m) size) (Refused Incomplete)))
+      limited true f =
+          let p = and-both (leb kind 3) (ltb maxValue size) f in
+          long e g (leb-true kind 3 (p .0)) (ltb-true maxValue size (p .1))
+      limited false f = within f (leb (n + m + size) (length s)) refl
+
+  pub frame-case : FrameCase s (frameOf s)
+  unfolding frameOf
+  frame-case = typed (readNumber s) refl
+    where
+      counted : (kind n : ℕ) → readNumber s ≡ Whole kind n → (r : NumberRead) → readNumber (drop n s) ≡ r → FrameCase s (afterLength s kind n r)
+      counted kind n e (Whole size m) g = at-case kind n size m e g
+      counted kind n e Cut g = lacking
+
+      typed : (r : NumberRead) → readNumber s ≡ r → FrameCase s (afterType s r)
+      typed (Whole kind n) e = counted kind n e (readNumber (drop n s)) refl
+      typed Cut e = lacking
+
+  of-value : (r : FrameRead) (k a z : ℕ) → FrameCase s r → r ≡ Value k a z → Framed s k a z
+  of-value r k a z (there {kind} {start} {size} f) e =
+      let x : kind ≡ k = cc in
+      let y : start ≡ a = cc in
+      let w : size ≡ z = cc in
+      rw (x, y, w) at f
+  of-value r k a z (long e g h l) q = let w : _≡_ {A = ℕ} 0 1 = cc in absurd (omega arith)
+  of-value r k a z lacking q = let w : _≡_ {A = ℕ} 0 1 = cc in absurd (omega arith)
+
+  pub frame-facts : (kind start size : ℕ) → frameOf s ≡ Value kind start size → Framed s kind start size
+  frame-facts kind start size e = of-value (frameOf s) kind start size frame-case e
+
+module _ {s : List ℕ} {kind start size : ℕ} (f : Framed s kind start size) where
+  short-either : Short kind size
+  short-either = ⊎-elim (λ h. inl h) (λ h. inr (f .short h)) (order 3 kind)
+
+  pub framed-frame : frameOf s ≡ Value kind start size
+  framed-frame =
+      let l : f .n + f .m + size ≤ length s = omega (arith, f .starts, f .there) in
+      sym (rw (f .starts) (whole s kind (f .n + f .m) size short-either l ∙ framed s kind (f .n) (f .type) size (f .m) (f .count)))
+
+-- bytes appended
+module _ (s t : List ℕ) where
+  read-behind : (n v m : ℕ) → n ≤ length s → readNumber (drop n s) ≡ Whole v m → readNumber (drop n (s ++ t)) ≡ Whole v m
+  read-behind n v m h e = rw (drop-append-le n s t h) (Number.read-append (drop n s) t v m e)
+
+  pub framed-append : (kind start size : ℕ) → Framed s kind start size → Framed (s ++ t) kind start size
+  framed-append kind start size f =
+      record {
+        n = f .n;
+        m = f .m;
+        type = Number.read-append s t kind (f .n) (f .type);
+        count = read-behind (f .n) size (f .m) (Number.taken s kind (f .n) (f .type) .within) (f .count);
+        starts = f .starts;
+        there = omega (arith, f .there, length-append s t);
+        short = f .short;
+      }
+
+  pub long-append : (kind n size m : ℕ) → readNumber s ≡ Whole kind n → readNumber (drop n s) ≡ Whole size m → kind ≤ 3 → maxValue < size
+      → frameOf (s ++ t) ≡ Refused TooLong
+  long-append kind n size m e g h l =
+      sym (too-long (s ++ t) kind (n + m) size h l
+      ∙ framed (s ++ t) kind n (Number.read-append s t kind n e) size m (read-behind n size m (Number.taken s kind n e .within) g))

@@ -6,3 +6,10 @@ pub mod Seen
 pub mod RangesTurn
 pub mod EntriesTurn
 pub mod ValueCases
+pub mod Parsing
+pub mod Fields
+pub mod EntryBytes
+pub mod RangeBytes
+pub mod ReadFacts
+pub mod ReadLaws
+pub mod RoundTrip

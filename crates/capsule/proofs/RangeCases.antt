@@ -1,7 +1,7 @@
 -- A range at the front of some bytes, by the code's cases, and what a reading of one says. Assumes nothing.
-use Prim.Native.Nat.{ℕ, _+_, _≤_, _<_}
+use Prim.Native.Nat.{ℕ, _≤_, _<_}
 use mathlib.Core.Bool.{Bool, true, false, _&&_}
-use mathlib.Core.Path.{_≡_, refl, sym, ap, _∙_}
+use mathlib.Core.Path.{_≡_, refl}
 use mathlib.Core.List.{List}
 use native.Mathlib.Omega.{arith}
 use borrow.Author.Tests.{le-leb, lt-leb, ne-eqb, leb-true, eqb-true}
@@ -11,7 +11,6 @@ use Rattle.answer.specs.Choice.{pick}
 use Rattle.answer.proofs.Tests.{and-both}
 use Rattle.lists.specs.declared.RouteRange.{RouteRange}
 use Rattle.lists.specs.Rules.{soundRange}
-use Rattle.capsule.specs.declared.element.RangeRead.{RangeRead}
 use Rattle.capsule.specs.declared.element.RangeRead.the-variants.{Good, Bad}
 use Rattle.capsule.specs.Entries.{range4, range6, wholeRange, readRange}
 use Rattle.capsule.proofs.EntryCases.{pick-same}

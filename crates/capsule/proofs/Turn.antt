@@ -1,20 +1,17 @@
 -- A turn of a loop that reads elements of any kind: one element more before what is left to parse, or the first fault. Assumes nothing.
-use Prim.Native.Nat.{ℕ, zero, suc, _+_, _-_, _≤_, _<_}
-use mathlib.Core.Bool.{Bool, true, false, not}
-use mathlib.Core.Path.{_≡_, refl, sym, ap, _∙_}
+use Prim.Native.Nat.{ℕ, suc, _+_, _-_, _≤_, _<_}
+use mathlib.Core.Bool.{Bool, true, false}
+use mathlib.Core.Path.{_≡_, refl, sym, _∙_}
 use mathlib.Core.List.{List, [], _∷_, _++_, append-assoc, append-nil}
 use native.Mathlib.Nat.{not-suc-le-zero, sub-zero}
 use native.Mathlib.Omega.{arith}
 use borrow.Author.Tests.{le-leb, lt-leb}
-use lib.Dec.{leb}
 use lib.ListN.{length, drop, length-drop, length-append}
 use lib.Seq.{drop-drop}
 use Rattle.answer.specs.declared.Refusal.{Refusal}
 use Rattle.answer.specs.declared.Refusal.the-variants.{BadRequestId, TooMany}
-use Rattle.answer.specs.declared.Verdict.{Verdict}
 use Rattle.answer.specs.declared.Verdict.the-variants.{Go, Stop}
-use Rattle.answer.specs.Verdict.{stopIf}
-use Rattle.capsule.specs.Elements.{Element, element, broken, Format, Parsed, fault, all, before, passing, parse, countVerdict, settled, elementsIn}
+use Rattle.capsule.specs.Elements.{element, broken, Format, Parsed, fault, all, before, parse, settled, elementsIn}
 
 module _ {A : Type 0} (f : Format A) (fuel : ℕ) (earlier : List A) where
   -- one element, and what follows it

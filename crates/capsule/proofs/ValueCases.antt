@@ -1,12 +1,11 @@
 -- What reading hands back, by the code's cases: of a list's value, of any value, and of a place of a buffer. Assumes nothing.
 use Prim.Native.Nat.{ℕ, _+_, _-_, _^_, _≤_, _<_}
 use mathlib.Core.Bool.{Bool, true, false}
-use mathlib.Core.Path.{_≡_, refl, sym, ap, _∙_}
-use mathlib.Core.List.{List, []}
+use mathlib.Core.Path.{_≡_, refl}
+use mathlib.Core.List.{List}
 use native.Mathlib.Nat.{add-assoc}
 use native.Mathlib.Omega.{arith}
-use borrow.Author.Tests.{eq-eqb, ne-eqb}
-use lib.Dec.{eqb}
+use borrow.Author.Tests.{ne-eqb}
 use lib.ListN.{length, take, drop, drop-of-length-le, length-take, length-drop}
 use Rattle.octets.proofs.Parts as Parts
 use Rattle.answer.specs.declared.Refusal.{Refusal}
@@ -19,7 +18,6 @@ use Rattle.lists.specs.declared.RouteRange.{RouteRange}
 use Rattle.lists.specs.declared.RouteList.{RouteList}
 use Rattle.lists.specs.declared.AddressList.{AddressList}
 use Rattle.lists.specs.Words.{noAddresses, noRoutes, maxAddresses, maxRanges}
-use Rattle.capsule.specs.declared.Outcome.{Outcome}
 use Rattle.capsule.specs.declared.Outcome.the-variants.{Datagram, Assigned, Requested, Advertised, Skipped, Refused}
 use Rattle.capsule.specs.declared.CapsuleRead.{CapsuleRead}
 use Rattle.capsule.specs.declared.FrameRead.the-variants.{Value}

@@ -1,6 +1,6 @@
 -- Values that are lists of elements, read and written by one definition for every kind of element.
 use Prim.Native.Nat.{ℕ, zero, suc}
-use mathlib.Core.Bool.{Bool, true, false, not}
+use mathlib.Core.Bool.{Bool, not}
 use mathlib.Core.List.{List, [], _∷_, _++_}
 use lib.Dec.{leb}
 use lib.ListN.{length, drop}
@@ -8,7 +8,6 @@ use Rattle.answer.specs.declared.Refusal.{Refusal}
 use Rattle.answer.specs.declared.Refusal.the-variants.{BadRequestId, TooMany}
 use Rattle.answer.specs.declared.Verdict.{Verdict}
 use Rattle.answer.specs.declared.Verdict.the-variants.{Go, Stop}
-use Rattle.answer.specs.Choice.{pick}
 use Rattle.answer.specs.Verdict.{stopIf, _then_}
 
 -- what stands at the front of some bytes: an element and how many bytes it took, or none

@@ -2,3 +2,6 @@ pub mod Elements
 pub mod Entries
 pub mod Capsules
 pub mod Results
+pub mod Sound
+pub mod Shortest
+pub mod Examples

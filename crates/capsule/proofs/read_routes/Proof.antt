@@ -1,43 +1,32 @@
+-- The verdict of the list decides: a list that goes is handed back, and of a refused one nothing.
+use mathlib.Core.Bool.{false}
+use mathlib.Core.Path.{_∙_}
+use borrow.Author.Needs.{needs}
+use Rattle.lists.specs.Words.{maxRanges}
 use Rattle.capsule.specs.Elements.{elementsIn}
 use Rattle.capsule.specs.Entries.{rangeFormat}
-use Rattle.lists.specs.Words.{maxRanges}
-use mathlib.Core.Bool.{false}
-use mathlib.Core.Path.{_≡_, sym, ap, _∙_}
 use Rattle.capsule.proofs.ValueCases as Value
-use borrow.Author.Needs.{needs}
 use Rattle.capsule.proofs.read_routes.Statement.{statement}
 use Rattle.capsule.proofs.read_routes.Tie as tie
-use Rattle.capsule.proofs.read_routes.Reads as reads
-use Rattle.capsule.proofs.read_routes.Lts as lts
-use Rattle.capsule.proofs.list.read_ranges.Reads as read-ranges-reads
-use Rattle.capsule.proofs.with_no_list.Reads as with-no-list-reads
-use Rattle.lists.proofs.no_addresses.Reads as no-addresses-reads
 
--- src/lib.rt:239:9
 read-ranges-requires : tie.Need-read-ranges-requires
 read-ranges-requires c κs = search needs
 
--- src/lib.rt:244:17
 enum-told : tie.Need-enum-told
 enum-told c = search needs
 
--- src/lib.rt:244:17
 no-addresses-requires : tie.Need-no-addresses-requires
 no-addresses-requires c κs = search needs
 
--- src/lib.rt:251:23
 enum-known-verdict : tie.Need-enum-known-verdict
 enum-known-verdict c = search needs
 
--- src/lib.rt:251:31
 with-no-list-requires : tie.Need-with-no-list-requires
 with-no-list-requires c κs = search needs
 
--- src/lib.rt:235:1
 returns : tie.Need-returns
 returns c = let a = c .before .before .before .before .before .before .args in Value.routes-taken (a .next) (elementsIn rangeFormat false maxRanges (a .value .now)) _ _ (c .before .before .before .before .read-ranges .ensures) (c .no-addresses .ensures) (c .before .enum-told .given .1)
 
--- src/lib.rt:235:1
 returns-2 : tie.Need-returns-2
 returns-2 c = let a = c .before .before .before .before .before .before .before .args in c .with-no-list .ensures ∙ Value.routes-refused (a .next) (elementsIn rangeFormat false maxRanges (a .value .now)) _ _ (c .before .before .before .before .before .read-ranges .ensures) (c .before .before .verdict .given .1)
 

@@ -1,61 +1,46 @@
+-- Of a refusal the number is what `Refusal::number` ensures; of every other outcome it is 0.
 use mathlib.Core.Path.{sym, ap, _∙_}
-use Rattle.capsule.specs.Results.{outcomeNumber}
 use borrow.Author.Needs.{needs}
+use Rattle.capsule.specs.Results.{outcomeNumber}
 use Rattle.capsule.proofs.Outcome.number.Statement.{statement}
 use Rattle.capsule.proofs.Outcome.number.Tie as tie
-use Rattle.capsule.proofs.Outcome.number.Reads as reads
-use Rattle.capsule.proofs.Outcome.number.Lts as lts
-use Rattle.answer.proofs.Refusal.number.Reads as number-reads
 
--- src/lib.rt:82:18
 enum-told : tie.Need-enum-told
 enum-told c = search needs
 
--- src/lib.rt:83:46
 enum-told-2 : tie.Need-enum-told-2
 enum-told-2 c = search needs
 
--- src/lib.rt:84:47
 enum-told-3 : tie.Need-enum-told-3
 enum-told-3 c = search needs
 
--- src/lib.rt:85:48
 enum-told-4 : tie.Need-enum-told-4
 enum-told-4 c = search needs
 
--- src/lib.rt:86:45
 enum-told-5 : tie.Need-enum-told-5
 enum-told-5 c = search needs
 
--- src/lib.rt:87:30
 enum-known-self : tie.Need-enum-known-self
 enum-known-self c = search needs
 
--- src/lib.rt:87:38
 number-requires : tie.Need-number-requires
 number-requires c κs = search needs
 
--- src/lib.rt:74:5
 returns : tie.Need-returns
 returns c = search needs
 
--- src/lib.rt:74:5
 returns-2 : tie.Need-returns-2
 returns-2 c = search needs
 
--- src/lib.rt:74:5
 returns-3 : tie.Need-returns-3
 returns-3 c = search needs
 
--- src/lib.rt:74:5
 returns-4 : tie.Need-returns-4
 returns-4 c = search needs
 
--- src/lib.rt:74:5
 returns-5 : tie.Need-returns-5
 returns-5 c = search needs
 
--- src/lib.rt:74:5
 returns-6 : tie.Need-returns-6
 returns-6 c = c .number .ensures ∙ sym (ap outcomeNumber (c .before .before .self .given .1))
 

@@ -1,25 +1,20 @@
-use lib.ListN.{length, drop, set}
-use Rattle.lists.specs.Rules.{idOf}
-use Prim.Native.Nat.{ℕ, _+_, _-_}
-use mathlib.Core.Path.{_≡_, refl, sym, _∙_}
+-- The invariant: the words and the IDs hold the entries read so far, and what is left to parse gives the whole answer. Each entry took 7 bytes
+-- at least, so that there is room for its ID. A turn is `EntriesTurn`'s.
+use Prim.Native.Nat.{_+_, _-_}
+use mathlib.Core.Path.{_≡_, sym, _∙_}
 use mathlib.Core.Logic.{⊎-elim}
 use native.Mathlib.Omega.{arith}
-use borrow.Author.Tests.{not-true, not-false}
+use borrow.Author.Needs.{needs}
+use lib.ListN.{length, drop, set}
 use Rattle.answer.specs.declared.Verdict.the-variants.{Go}
 use Rattle.octets.proofs.Parts as Parts
-use Rattle.capsule.specs.declared.element.EntryRead.the-variants.{Good, Bad}
+use Rattle.lists.specs.Rules.{idOf}
+use Rattle.capsule.specs.declared.element.EntryRead.the-variants.{Good}
 use Rattle.capsule.specs.Entries.{readEntry, entryFollows}
 use Rattle.capsule.proofs.EntryCases as Entry
 use Rattle.capsule.proofs.EntriesTurn as T
-use borrow.Author.Needs.{needs}
 use Rattle.capsule.proofs.list.read_entries.Statement.{statement}
 use Rattle.capsule.proofs.list.read_entries.Tie as tie
-use Rattle.capsule.proofs.list.read_entries.Reads as reads
-use Rattle.capsule.proofs.list.read_entries.Lts as lts
-use Rattle.capsule.proofs.element.read_entry.Reads as read-entry-reads
-use Rattle.capsule.proofs.list.no_entries.Reads as no-entries-reads
-use Rattle.capsule.proofs.list.zero_or_seen.Reads as zero-or-seen-reads
-use Rattle.lists.proofs.put_entry.Reads as put-entry-reads
 
 abbrev Inv-loop : tie.InvT-loop
 Inv-loop value request words₀ ids₀ count₀ at₀ words ids count at = T.Reading request value words ids count at
@@ -27,8 +22,6 @@ Inv-loop value request words₀ ids₀ count₀ at₀ words ids count at = T.Rea
 abbrev μ-loop : tie.MeasureT-loop
 μ-loop value request words₀ ids₀ count₀ at₀ words ids count at = length value - at
 
-
--- <<<
 -- what was read in the turn
 got : (c : tie.Joined1 Inv-loop μ-loop) → readEntry (drop (c .before .before .before .before .before .before .before .before .loop .at) (c .before .before .before .before .before .before .before .before .before .before .args .value .now)) ≡ Good (c .before .before .before .r .given .0 .0) (c .before .before .before .r .given .0 .1 .0)
 got c =
@@ -49,105 +42,78 @@ turned c =
     (λ w. rw (w .1) (T.next-full i (omega arith) _ _ (got (c .before)) (omega arith) (follows (c .before)) (omega arith)))
     (c .if3 .came)
 
--- >>>
-
--- src/list.rt:46:5
 loop-holds : tie.Need-loop-holds Inv-loop μ-loop
 loop-holds c = T.start _ _
 
--- src/list.rt:47:44
 sub-read-entry : tie.Need-sub-read-entry Inv-loop μ-loop
 sub-read-entry c = search needs
 
--- src/list.rt:47:44
 part-read-entry-start : tie.Need-part-read-entry-start Inv-loop μ-loop
 part-read-entry-start c = search needs
 
--- src/list.rt:47:44
 part-read-entry-end : tie.Need-part-read-entry-end Inv-loop μ-loop
 part-read-entry-end c = search needs
 
--- src/list.rt:47:13
 read-entry-requires : tie.Need-read-entry-requires Inv-loop μ-loop
 read-entry-requires c κs = search needs
 
--- src/list.rt:49:31
 enum-known-r : tie.Need-enum-known-r Inv-loop μ-loop
 enum-known-r c = search needs
 
--- src/list.rt:52:24
 zero-or-seen-requires : tie.Need-zero-or-seen-requires Inv-loop μ-loop
 zero-or-seen-requires c κs = omega (arith, c .before .before .before .before .before .before .before .before .before .loop .inv .behind, c .before .before .before .before .before .before .before .before .before .loop .inv .reading .within)
 
--- src/list.rt:53:25
 no-entries-requires : tie.Need-no-entries-requires Inv-loop μ-loop
 no-entries-requires c κs = search needs
 
--- src/list.rt:53:25
 returns : tie.Need-returns Inv-loop μ-loop
 returns c = c .no-entries .ensures ∙ T.fault-id (c .before .before .before .before .before .before .before .before .before .before .before .before .loop .inv) (omega arith) _ _ (rw Parts.tail at (sym (c .before .before .before .before .before .before .before .before .before .read-entry .ensures) ∙ c .before .before .before .before .before .before .before .r .given .1)) (c .before .before .before .before .if1 .taken) (sym (c .before .before .zero-or-seen .ensures) ∙ c .before .if2 .taken)
 
--- src/list.rt:56:17
 mul-ids : tie.Need-mul-ids Inv-loop μ-loop
 mul-ids c = search needs
 
--- src/list.rt:56:17
 array-write-ids : tie.Need-array-write-ids Inv-loop μ-loop
 array-write-ids c = T.id-room (c .before .before .before .before .before .before .before .before .loop .inv) (omega arith) _ _ (got c) (omega arith)
 
--- src/list.rt:58:21
 put-entry-requires : tie.Need-put-entry-requires Inv-loop μ-loop
 put-entry-requires c κs = search needs
 
--- src/list.rt:60:17
 add-count : tie.Need-add-count Inv-loop μ-loop
 add-count c = omega (arith, turned c .behind, turned c .reading .within)
 
--- src/list.rt:61:17
 add-at : tie.Need-add-at Inv-loop μ-loop
 add-at c = omega (arith, turned c .reading .within)
 
--- src/list.rt:46:5
 loop-less : tie.Need-loop-less Inv-loop μ-loop
 loop-less c = omega (arith, Entry.size _ _ _ (got (c .before)) .0, turned c .reading .within)
 
--- src/list.rt:46:5
 loop-again : tie.Need-loop-again Inv-loop μ-loop
 loop-again c = turned c
 
--- src/list.rt:64:35
 enum-told : tie.Need-enum-told Inv-loop μ-loop
 enum-told c = search needs
 
--- src/list.rt:64:17
 no-entries-requires-2 : tie.Need-no-entries-requires-2 Inv-loop μ-loop
 no-entries-requires-2 c κs = search needs
 
--- src/list.rt:64:17
 returns-2 : tie.Need-returns-2 Inv-loop μ-loop
 returns-2 c = c .no-entries2 .ensures ∙ T.fault-entry (c .before .before .before .before .before .before .loop .inv) (omega arith) (rw Parts.tail at (sym (c .before .before .before .read-entry .ensures) ∙ c .before .enum-told .given .1))
 
--- src/list.rt:70:13
 no-entries-requires-3 : tie.Need-no-entries-requires-3 Inv-loop μ-loop
 no-entries-requires-3 c κs = search needs
 
--- src/list.rt:70:13
 returns-3 : tie.Need-returns-3 Inv-loop μ-loop
 returns-3 c = c .no-entries3 .ensures ∙ T.empty (c .before .before .before .before .loop .inv) (omega arith) (omega arith) (c .before .if5 .taken)
 
--- src/list.rt:74:9
 no-entries-requires-4 : tie.Need-no-entries-requires-4 Inv-loop μ-loop
 no-entries-requires-4 c κs = search needs
 
--- src/list.rt:74:9
 returns-4 : tie.Need-returns-4 Inv-loop μ-loop
 returns-4 c = c .no-entries4 .ensures ∙ T.many (c .before .before .before .before .loop .inv) (omega arith) (omega arith)
 
--- src/list.rt:76:5
 array-write-words : tie.Need-array-write-words Inv-loop μ-loop
 array-write-words c = search needs
 
--- src/list.rt:38:1
 returns-5 : tie.Need-returns-5 Inv-loop μ-loop
 returns-5 c = T.fine (c .before .before .before .loop .inv) (omega arith) (omega arith) (⊎-elim (λ w. λ e. w .1 .left) (λ w. λ e. absurd (w .left e)) (c .before .if4 .came))
 

@@ -1,24 +1,19 @@
-use Prim.Native.Nat.{ℕ, _+_, _-_}
-use mathlib.Core.Path.{_≡_, refl, sym, _∙_}
+-- The invariant: the words hold the ranges read so far, the last of which is kept, and what is left to parse gives the whole answer. A turn is
+-- `RangesTurn`'s.
+use Prim.Native.Nat.{_+_, _-_}
+use mathlib.Core.Path.{_≡_, sym, _∙_}
 use mathlib.Core.Logic.{⊎-elim}
 use native.Mathlib.Omega.{arith}
 use borrow.Author.Tests.{not-true, not-false}
+use borrow.Author.Needs.{needs}
 use lib.ListN.{length, drop}
 use Rattle.octets.proofs.Parts as Parts
-use Rattle.capsule.specs.declared.element.RangeRead.the-variants.{Good, Bad}
+use Rattle.capsule.specs.declared.element.RangeRead.the-variants.{Good}
 use Rattle.capsule.specs.Entries.{readRange}
 use Rattle.capsule.proofs.RangeCases as Range
 use Rattle.capsule.proofs.RangesTurn as T
-use borrow.Author.Needs.{needs}
 use Rattle.capsule.proofs.list.read_ranges.Statement.{statement}
 use Rattle.capsule.proofs.list.read_ranges.Tie as tie
-use Rattle.capsule.proofs.list.read_ranges.Reads as reads
-use Rattle.capsule.proofs.list.read_ranges.Lts as lts
-use Rattle.capsule.proofs.element.read_range.Reads as read-range-reads
-use Rattle.capsule.proofs.list.no_ranges.Reads as no-ranges-reads
-use Rattle.lists.proofs.before_all.Reads as before-all-reads
-use Rattle.lists.proofs.in_order.Reads as in-order-reads
-use Rattle.lists.proofs.put_range.Reads as put-range-reads
 
 abbrev Inv-loop : tie.InvT-loop
 Inv-loop value words₀ last₀ count₀ at₀ words last count at = T.Reading value words last count at
@@ -26,7 +21,6 @@ Inv-loop value words₀ last₀ count₀ at₀ words last count at = T.Reading v
 abbrev μ-loop : tie.MeasureT-loop
 μ-loop value words₀ last₀ count₀ at₀ words last count at = length value - at
 
--- <<<
 -- what was read in the turn
 got : (c : tie.Joined2 Inv-loop μ-loop) → readRange (drop (c .before .before .before .before .before .before .before .before .before .loop .at) (c .before .before .before .before .before .before .before .before .before .before .before .before .args .value .now)) ≡ Good (c .before .before .before .before .r .given .0 .0) (c .before .before .before .before .r .given .0 .1 .0)
 got c =
@@ -43,93 +37,69 @@ turned c =
     (λ w. rw (w .1) (T.next-full i (omega arith) _ _ (got c) (omega arith) o))
     (c .if2 .came)
 
--- >>>
-
--- src/list.rt:118:9
 before-all-requires : tie.Need-before-all-requires Inv-loop μ-loop
 before-all-requires c κs = search needs
 
--- src/list.rt:121:5
 loop-holds : tie.Need-loop-holds Inv-loop μ-loop
 loop-holds c = T.start _ _ (c .before-all .ensures)
 
--- src/list.rt:122:44
 sub-read-range : tie.Need-sub-read-range Inv-loop μ-loop
 sub-read-range c = omega (arith, c .before .loop .inv .reading .within)
 
--- src/list.rt:122:44
 part-read-range-start : tie.Need-part-read-range-start Inv-loop μ-loop
 part-read-range-start c = omega (arith, c .before .loop .inv .reading .within)
 
--- src/list.rt:122:44
 part-read-range-end : tie.Need-part-read-range-end Inv-loop μ-loop
 part-read-range-end c = search needs
 
--- src/list.rt:122:13
 read-range-requires : tie.Need-read-range-requires Inv-loop μ-loop
 read-range-requires c κs = search needs
 
--- src/list.rt:124:31
 enum-known-r : tie.Need-enum-known-r Inv-loop μ-loop
 enum-known-r c = search needs
 
--- src/list.rt:125:21
 in-order-requires : tie.Need-in-order-requires Inv-loop μ-loop
 in-order-requires c κs = search needs
 
--- src/list.rt:126:21
 no-ranges-requires : tie.Need-no-ranges-requires Inv-loop μ-loop
 no-ranges-requires c κs = search needs
 
--- src/list.rt:126:21
 returns : tie.Need-returns Inv-loop μ-loop
 returns c = c .no-ranges .ensures ∙ T.fault-order (c .before .before .before .before .before .before .before .before .before .loop .inv) (omega arith) _ _ (rw Parts.tail at (sym (c .before .before .before .before .before .before .read-range .ensures) ∙ c .before .before .before .before .r .given .1)) (sym (c .before .before .in-order .ensures) ∙ not-true _ (c .before .if1 .taken))
 
--- src/list.rt:129:21
 put-range-requires : tie.Need-put-range-requires Inv-loop μ-loop
 put-range-requires c κs = search needs
 
--- src/list.rt:132:17
 add-count : tie.Need-add-count Inv-loop μ-loop
 add-count c = omega (arith, turned c .reading .behind, turned c .reading .within, turned c .counted)
 
--- src/list.rt:133:17
 add-at : tie.Need-add-at Inv-loop μ-loop
 add-at c = omega (arith, turned c .reading .within)
 
--- src/list.rt:121:5
 loop-less : tie.Need-loop-less Inv-loop μ-loop
 loop-less c = omega (arith, Range.size _ _ _ (got c) .0, turned c .reading .within)
 
--- src/list.rt:121:5
 loop-again : tie.Need-loop-again Inv-loop μ-loop
 loop-again c = turned c
 
--- src/list.rt:136:34
 enum-told : tie.Need-enum-told Inv-loop μ-loop
 enum-told c = search needs
 
--- src/list.rt:136:17
 no-ranges-requires-2 : tie.Need-no-ranges-requires-2 Inv-loop μ-loop
 no-ranges-requires-2 c κs = search needs
 
--- src/list.rt:136:17
 returns-2 : tie.Need-returns-2 Inv-loop μ-loop
 returns-2 c = c .no-ranges2 .ensures ∙ T.fault-range (c .before .before .before .before .before .before .loop .inv) (omega arith) (rw Parts.tail at (sym (c .before .before .before .read-range .ensures) ∙ c .before .enum-told .given .1))
 
--- src/list.rt:141:9
 no-ranges-requires-3 : tie.Need-no-ranges-requires-3 Inv-loop μ-loop
 no-ranges-requires-3 c κs = search needs
 
--- src/list.rt:141:9
 returns-3 : tie.Need-returns-3 Inv-loop μ-loop
 returns-3 c = c .no-ranges3 .ensures ∙ T.many (c .before .before .before .loop .inv) (omega arith) (omega arith)
 
--- src/list.rt:143:5
 array-write-words : tie.Need-array-write-words Inv-loop μ-loop
 array-write-words c = search needs
 
--- src/list.rt:113:1
 returns-4 : tie.Need-returns-4 Inv-loop μ-loop
 returns-4 c = T.fine (c .before .before .loop .inv) (omega arith) (omega arith)
 
