@@ -1,55 +1,52 @@
+-- The two refusals before the capsule's own, and then the two answers of the capsule.
+use Rattle.lists.proofs.Calls.{called-true, called-false}
+use Rattle.exchange.proofs.WriteCases.{advertise-no-room, advertise-broken, advertise-stopped, advertise-done, advertise-refused}
+use lib.ListN.{length}
 use borrow.Author.Needs.{needs}
 use Rattle.exchange.proofs.write_routes.Statement.{statement}
 use Rattle.exchange.proofs.write_routes.Tie as tie
-use Rattle.exchange.proofs.write_routes.Reads as reads
-use Rattle.exchange.proofs.write_routes.Lts as lts
-use Rattle.capsule_write.proofs.write_routes.Reads as write-routes-reads
-use Rattle.grant.proofs.Grants.sound.Reads as sound-reads
-use Rattle.grant.proofs.Grants.with_given_routes.Reads as with-given-routes-reads
 
--- src/lib.rt:95:9
 returns : tie.Need-returns
-returns c = search needs
+returns c =
+    let a = c .before .before .args in
+    advertise-stopped (a .grants) (a .list) (a .out .now) (advertise-no-room (a .grants) (a .list) (length (a .out .now)) (c .if1 .taken))
 
--- src/lib.rt:97:9
 sound-requires : tie.Need-sound-requires
 sound-requires c κs = search needs
 
--- src/lib.rt:99:9
 returns-2 : tie.Need-returns-2
-returns-2 c = search needs
+returns-2 c =
+    let a = c .before .before .before .before .args in
+    advertise-stopped (a .grants) (a .list) (a .out .now)
+    (advertise-broken (a .grants) (a .list) (length (a .out .now)) (c .before .before .if1 .left) (called-false (c .before .sound .ensures) (c .if2 .taken)))
 
--- src/lib.rt:101:9
 write-routes-requires : tie.Need-write-routes-requires
 write-routes-requires c κs = search needs
 
--- src/lib.rt:104:17
 enum-told : tie.Need-enum-told
 enum-told c = search needs
 
--- src/lib.rt:104:17
 with-given-routes-requires : tie.Need-with-given-routes-requires
 with-given-routes-requires c κs = search needs
 
--- src/lib.rt:110:31
 enum-told-2 : tie.Need-enum-told-2
 enum-told-2 c = search needs
 
--- src/lib.rt:90:1
 same-length : tie.Need-same-length
 same-length c = search needs
 
--- src/lib.rt:90:1
 returns-3 : tie.Need-returns-3
-returns-3 c = search needs
+returns-3 c =
+    let a = c .before .before .before .before .before .before .before .before .before .before .before .args in
+    advertise-done (a .grants) (a .list) (a .out .now) (called-true (c .before .before .before .before .before .before .before .before .sound .ensures) (c .before .before .before .before .before .before .before .if2 .left)) (c .before .before .before .before .before .write-routes .ensures) (c .before .enum-told .given .1) (c .with-given-routes .ensures)
 
--- src/lib.rt:90:1
 same-length-2 : tie.Need-same-length-2
 same-length-2 c = search needs
 
--- src/lib.rt:90:1
 returns-4 : tie.Need-returns-4
-returns-4 c = search needs
+returns-4 c =
+    let a = c .before .before .before .before .before .before .before .before .before .before .args in
+    advertise-refused (a .grants) (a .list) (a .out .now) (called-true (c .before .before .before .before .before .before .before .sound .ensures) (c .before .before .before .before .before .before .if2 .left)) (c .before .before .before .before .write-routes .ensures) (c .enum-told2 .given .1)
 
 pub write-routes-spec : {M : Type 1} → statement M
 write-routes-spec =
