@@ -1,7 +1,7 @@
 -- The ways out of reading a capsule: a broken state, and what each outcome does to the lists. Assumes nothing.
 use Prim.Native.Nat.{ℕ}
-use mathlib.Core.Path.{_≡_, refl, sym, ap, _∙_}
-use mathlib.Core.Bool.{Bool, true, false, not}
+use mathlib.Core.Path.{_≡_}
+use mathlib.Core.Bool.{true, false}
 use mathlib.Core.List.{List}
 use Rattle.answer.specs.declared.Refusal.the-variants.{BrokenState}
 use Rattle.lists.specs.declared.AddressList.{AddressList}

@@ -1,7 +1,7 @@
 -- Laws of reading a capsule against the grants: a good list replaces the earlier one whole, all else leaves the state as it was, and a sound state
 -- stays sound, since what is read is sound. Assumes nothing.
-use Prim.Native.Nat.{ℕ, _+_}
-use mathlib.Core.Path.{_≡_, refl, sym, ap, _∙_}
+use Prim.Native.Nat.{ℕ}
+use mathlib.Core.Path.{_≡_, refl, ap, _∙_}
 use mathlib.Core.Bool.{Bool, true, false}
 use mathlib.Core.List.{List}
 use lib.ListN.{drop}
@@ -18,8 +18,7 @@ use Rattle.lists.proofs.Views.{entries-pack, ranges-pack}
 use Rattle.verdict.proofs.PassLaws.{AllSound, sound-facts, facts-sound}
 use Rattle.capsule.specs.declared.Outcome.{Outcome}
 use Rattle.capsule.specs.declared.Outcome.the-variants.{Datagram, Assigned, Requested, Advertised, Skipped, Refused}
-use Rattle.capsule.specs.declared.CapsuleRead.{CapsuleRead}
-use Rattle.capsule.specs.Capsules.{Capsule, datagram, assign, request, advertise, unknown, Reading, refused, capsule, readCapsule}
+use Rattle.capsule.specs.Capsules.{Capsule, assign, advertise, Reading, capsule, readCapsule}
 use Rattle.capsule.specs.Results.{alone, handed, resultAt, readAt}
 use Rattle.capsule.specs.Sound.{Sound, sound-assign, sound-advertise}
 use Rattle.capsule.proofs.ReadLaws.{read-sound, entries-sound, ranges-sound, lists-sound}

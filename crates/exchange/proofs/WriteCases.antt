@@ -1,9 +1,8 @@
 -- The ways out of writing a capsule: too small an output, a broken state, and then as the capsule. Assumes nothing.
 use Prim.Native.Nat.{ℕ, _<_, _≤_}
-use mathlib.Core.Path.{_≡_, refl, sym, ap, _∙_}
-use mathlib.Core.Bool.{Bool, true, false, not}
+use mathlib.Core.Path.{_≡_, refl, sym, _∙_}
+use mathlib.Core.Bool.{true, false}
 use mathlib.Core.List.{List}
-use lib.Dec.{ltb}
 use lib.ListN.{length}
 use borrow.Author.Tests.{lt-ltb, le-ltb}
 use Rattle.answer.specs.declared.Answer.{Answer}
@@ -18,10 +17,9 @@ use Rattle.lists.specs.declared.RouteList.{RouteList}
 use Rattle.lists.specs.Words.{entriesOf, rangesOf}
 use Rattle.capsule.specs.Capsules.{capsuleBytes, assign, advertise}
 use Rattle.capsule_write.proofs.Frames.{refused}
-use Rattle.capsule_write.specs.Verdicts.{capsuleRoom, entriesVerdict, rangesVerdict, addressVerdict, routeVerdict}
+use Rattle.capsule_write.specs.Verdicts.{capsuleRoom, addressVerdict, routeVerdict}
 use Rattle.grant.specs.declared.Grants.{Grants}
 use Rattle.grant.specs.State.{soundGrants, withGivenAddresses, withGivenRoutes}
-use Rattle.exchange.specs.declared.GrantsWritten.{GrantsWritten}
 use Rattle.exchange.specs.Exchange.{stateOf, assignVerdict, advertiseVerdict, AssignWritten, AdvertiseWritten}
 
 -- the state beside an answer

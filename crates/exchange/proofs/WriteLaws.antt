@@ -1,33 +1,30 @@
 -- Laws of writing a capsule against the grants: the list written becomes the given one and is read back, a refusal alters nothing, and a sound state
 -- stays sound, since only sound lists are written. Assumes nothing.
-use Prim.Native.Nat.{ℕ, zero, suc, _+_, _*_, _^_, _<_, _≤_}
+use Prim.Native.Nat.{ℕ, zero, suc, _+_, _*_, _^_, _<_}
 use mathlib.Core.Path.{_≡_, refl, sym, ap, _∙_}
-use mathlib.Core.Bool.{Bool, true, false, not, _&&_}
-use mathlib.Core.List.{List, [], _∷_, _++_}
+use mathlib.Core.Bool.{Bool, true, false, not}
+use mathlib.Core.List.{List, [], _++_}
 use native.Mathlib.Omega.{arith}
 use lib.Dec.{ltb, leb}
 use lib.ListN.{length, getD, take, drop}
 use lib.Seq.{take-at}
 use borrow.Author.Tests.{lt-ltb}
-use Rattle.answer.specs.declared.Answer.{Answer}
 use Rattle.answer.specs.declared.Answer.the-variants.{Done, Refused}
 use Rattle.answer.specs.declared.Refusal.{Refusal}
 use Rattle.answer.specs.declared.Refusal.the-variants.{NoRoom, BrokenState}
 use Rattle.answer.specs.declared.Verdict.{Verdict}
 use Rattle.answer.specs.declared.Verdict.the-variants.{Go, Stop}
 use Rattle.answer.specs.Choice.{pick}
-use Rattle.answer.specs.Verdict.{stopIf, answerOf, outputOf, Writes}
+use Rattle.answer.specs.Verdict.{stopIf, answerOf}
 use Rattle.answer.proofs.Tables.{done-go, done-count}
-use Rattle.lists.specs.declared.AddressEntry.{AddressEntry}
-use Rattle.lists.specs.declared.RouteRange.{RouteRange}
 use Rattle.lists.specs.declared.AddressList.{AddressList}
 use Rattle.lists.specs.declared.RouteList.{RouteList}
 use Rattle.lists.specs.Scan.{from, allOf}
-use Rattle.lists.specs.Words.{countOf, maxAddresses, maxRanges, word, entryAt, rangeAt, entriesOf, rangesOf}
-use Rattle.capsule.specs.Capsules.{Capsule, assign, advertise, unknown, capsule, capsuleBytes, readCapsule}
+use Rattle.lists.specs.Words.{countOf, maxAddresses, maxRanges, entryAt, rangeAt, entriesOf, rangesOf}
+use Rattle.capsule.specs.Capsules.{assign, advertise, capsule, capsuleBytes, readCapsule}
 use Rattle.capsule.specs.Sound.{kindOf, startOf, sound-assign, sound-advertise, inWords, entryInWords, rangeInWords}
 use Rattle.capsule.proofs.RoundTrip.{read-written}
-use Rattle.capsule_write.specs.Verdicts.{capsuleRoom, entriesVerdict, rangesVerdict}
+use Rattle.capsule_write.specs.Verdicts.{capsuleRoom}
 use Rattle.capsule_write.proofs.Accepted.{EntriesGo, RangesGo, entries-go, ranges-go}
 use Rattle.grant.specs.declared.Grants.{Grants}
 use Rattle.grant.specs.State.{receivedAddresses, receivedRoutes, givenAddresses, givenRoutes, soundGrants, withGivenAddresses, withGivenRoutes}
