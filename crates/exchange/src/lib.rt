@@ -57,7 +57,14 @@ pub fn read_capsule(grants: Grants, bytes: &[u8], at: usize) -> GrantsRead
                 capsule,
             }
         }
-        _ => GrantsRead { grants, capsule },
+        Outcome::Datagram {
+            start: _,
+            length: _,
+            next: _,
+        } => GrantsRead { grants, capsule },
+        Outcome::Requested { next: _ } => GrantsRead { grants, capsule },
+        Outcome::Skipped { next: _ } => GrantsRead { grants, capsule },
+        Outcome::Refused(_) => GrantsRead { grants, capsule },
     }
 }
 

@@ -1,0 +1,4 @@
+pub mod ReadCases
+pub mod WriteCases
+pub mod ReadLaws
+pub mod WriteLaws
