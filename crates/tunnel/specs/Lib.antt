@@ -1,2 +1,3 @@
 pub mod Tunnel
 pub mod Answers
+pub mod Opening
