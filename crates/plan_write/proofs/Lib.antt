@@ -1,0 +1,2 @@
+pub mod PlanRead
+pub mod PlanRoundTrip
