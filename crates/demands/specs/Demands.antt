@@ -54,7 +54,7 @@ module _ (g : Grants) (plan : Plan) (p out : List ℕ) (passed : Passes g plan p
         template = t;
         listed = found .0;
         fitting = found .1;
-        lowest = λ u i f. firstFit-lowest t u (shapesOf plan) 0 (lowered p) (plan-shapes plan (passes-go g plan p out passed .rules)) e i f;
+        lowest = λ u i f. firstFit-lowest t u (shapesOf plan) 0 (lowered p) (plan-shapes plan (passes-go g plan p out passed .plan)) e i f;
         bytes = datagram-sent g plan p out passed ∙ sent-short plan p t e;
       }
 

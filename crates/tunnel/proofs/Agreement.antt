@@ -35,7 +35,7 @@ module _ (g : Grants) (plan : Plan) (p : List ℕ) (n : ℕ) (s : SendGo g plan 
   -- both forms stand for the packet with its hop count lowered
   pub open-sent : opened (shapesOf plan) (sentBytes plan p) ≡ packet (lowered p)
   unfolding sentBytes
-  open-sent = open-datagram (shapesOf plan) (lowered p) (plan-shapes plan (s .rules)) lowered-short
+  open-sent = open-datagram (shapesOf plan) (lowered p) (plan-shapes plan (s .plan)) lowered-short
 
   pub open-whole : opened (shapesOf plan) (fullForm (lowered p)) ≡ packet (lowered p)
   open-whole = open-full (shapesOf plan) (lowered p) lowered-short
@@ -61,7 +61,7 @@ module _ (g : Grants) (plan : Plan) (p : List ℕ) (n : ℕ) (s : SendGo g plan 
   unfolding receiveVerdict receiveTests packetTests
   mirrored-go m h =
       rw open-sent
-      (simp (le-ltb m receiveRoom h, sound-mirrored g, s .grants, s .rules, lowered-form p (s .form), mirrored-granted))
+      (simp (le-ltb m receiveRoom h, sound-mirrored g, s .grants, s .plan, lowered-form p (s .form), mirrored-granted))
 
   -- a transport checksum is damaged after exactly where it was before
   pub damage-kept : (field start : ℕ) → 20 ≤ start → start ≤ field

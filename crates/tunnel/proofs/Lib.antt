@@ -1,6 +1,7 @@
 pub mod SendingLaws
-pub mod Agreement
-pub mod Answered
+pub mod SendingSteps
 pub mod ReceivingLaws
 pub mod ReceivingOpening
 pub mod ReceivingSteps
+pub mod Agreement
+pub mod Answered

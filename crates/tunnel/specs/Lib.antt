@@ -1,3 +1,4 @@
 pub mod Tunnel
 pub mod Answers
+pub mod Sending
 pub mod Opening
