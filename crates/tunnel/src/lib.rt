@@ -5,13 +5,10 @@
 mod sending; // sending.rt: from a packet to a datagram
 mod receiving; // receiving.rt: from a datagram to a packet
 
-<<<<<<< HEAD
 pub use receiving::receive;
 pub use receiving::receive_over;
-=======
 pub use sending::send;
 pub use sending::send_over;
->>>>>>> send
 
 // The least outputs that are sent to and received into.
 pub const SEND_ROOM: usize = 1508;
