@@ -12,7 +12,7 @@ use lib.Seq.{take-suc-set}
 use Rattle.answer.specs.declared.Refusal.the-variants.{BadAddress, BadRequestId, TooMany}
 use Rattle.answer.specs.declared.Verdict.the-variants.{Go, Stop}
 use Rattle.lists.specs.declared.AddressEntry.{AddressEntry}
-use Rattle.lists.specs.Scan.{anyOf}
+use Rattle.octets.specs.Scan.{anyOf}
 use Rattle.lists.specs.Rules.{idOf}
 use Rattle.lists.specs.Words.{maxAddresses, entryWords, putEntry, packEntries}
 use Rattle.lists.proofs.Packing as Packing

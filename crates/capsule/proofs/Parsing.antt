@@ -18,7 +18,7 @@ use Rattle.answer.specs.Verdict.{stopIf, _then_}
 use Rattle.answer.proofs.Tests.{and-both}
 use Rattle.octets.specs.Big.{Bytes}
 use Rattle.octets.proofs.BigLaws as Big
-use Rattle.lists.specs.Scan.{allOf}
+use Rattle.octets.specs.Scan.{allOf}
 use Rattle.capsule.specs.Elements.{Element, element, broken, Format, Parsed, fault, all, before, passing, afterElement, parse, countVerdict, settled, elementsIn, judged, written}
 use Rattle.capsule.specs.Sound.{Ruled}
 use Rattle.capsule.specs.Shortest.{everyElement, afterPassing}

@@ -13,7 +13,7 @@ use Rattle.octets.specs.Big.{Bytes}
 use Rattle.octets.proofs.BigLaws as Big
 use Rattle.lists.specs.declared.AddressEntry.{AddressEntry}
 use Rattle.lists.specs.declared.RouteRange.{RouteRange}
-use Rattle.lists.specs.Scan.{allOf}
+use Rattle.octets.specs.Scan.{allOf}
 use Rattle.lists.specs.Rules.{soundEntry, inOrder, beforeAll, soundAfter}
 use Rattle.lists.specs.Words.{maxAddresses, maxRanges, soundAddresses, soundRoutes, packEntries, packRanges}
 use Rattle.lists.proofs.Views as Views

@@ -11,7 +11,7 @@ use lib.ListN.{length, getD, take, drop, length-take, drop-of-length-le, List·g
 use lib.Seq.{drop-cons, getD-take}
 use mathlib.Core.Logic.{⊎-elim}
 use Rattle.answer.proofs.Tests.{order}
-use Rattle.lists.specs.Scan.{anyOf}
+use Rattle.octets.specs.Scan.{anyOf}
 
 -- whether an ID is zero or among the IDs
 abbrev pub zeroOrIn : ℕ → List ℕ → Bool

@@ -15,7 +15,7 @@ use Rattle.varint.specs.declared.NumberRead.the-variants.{Whole, Cut}
 use Rattle.varint.specs.Numbers.{readNumber, encode}
 use Rattle.lists.specs.declared.AddressEntry.{AddressEntry}
 use Rattle.lists.specs.declared.RouteRange.{RouteRange}
-use Rattle.lists.specs.Scan.{anyOf}
+use Rattle.octets.specs.Scan.{anyOf}
 use Rattle.lists.specs.Rules.{idOf, soundEntry, soundRange, inOrder, beforeAll}
 use Rattle.capsule.specs.declared.element.EntryRead.{EntryRead}
 use Rattle.capsule.specs.declared.element.EntryRead.the-variants as Entry

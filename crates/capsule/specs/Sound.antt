@@ -9,7 +9,7 @@ use Rattle.answer.specs.declared.Verdict.the-variants.{Go}
 use Rattle.varint.specs.Numbers.{encodedSize}
 use Rattle.lists.specs.declared.AddressEntry.{AddressEntry}
 use Rattle.lists.specs.declared.RouteRange.{RouteRange}
-use Rattle.lists.specs.Scan.{allOf}
+use Rattle.octets.specs.Scan.{allOf}
 use Rattle.lists.specs.Words.{maxAddresses, maxRanges}
 use Rattle.capsule.specs.Elements.{Format, judged, countVerdict, written}
 use Rattle.capsule.specs.Entries.{entryFormat, rangeFormat}

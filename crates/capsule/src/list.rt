@@ -14,7 +14,7 @@ ghost use mathlib.Core.Bool.{false, _||_};
 ghost use Prim.Native.Nat.{_≤_};
 ghost use lib.Dec.{eqb};
 ghost use lib.ListN.{length, take};
-ghost use Rattle.lists.specs.Scan.{anyOf};
+ghost use Rattle.octets.specs.Scan.{anyOf};
 ghost use Rattle.lists.specs.Words.{maxAddresses, maxRanges};
 ghost use Rattle.capsule.specs.Elements.{fault, elementsIn};
 ghost use Rattle.capsule.specs.Entries.{entryFormat, rangeFormat};

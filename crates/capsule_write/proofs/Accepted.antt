@@ -15,7 +15,7 @@ use Rattle.answer.specs.declared.Verdict.the-variants.{Go, Stop}
 use Rattle.answer.specs.Verdict.{stopIf, _then_}
 use Rattle.lists.specs.declared.AddressEntry.{AddressEntry}
 use Rattle.lists.specs.declared.RouteRange.{RouteRange}
-use Rattle.lists.specs.Scan.{from, allOf}
+use Rattle.octets.specs.Scan.{from, allOf}
 use Rattle.lists.specs.Rules.{soundEntry, soundRange, inOrder, beforeAll, soundAfter}
 use Rattle.lists.specs.Words.{maxAddresses, maxRanges, countOf, entryAt, rangeAt, entriesOf, rangesOf, soundAddresses, soundRoutes}
 use Rattle.lists.proofs.ListScans.{entries-within, ranges-within}

@@ -19,7 +19,7 @@ use Rattle.varint.specs.Numbers.{encode, encodedSize}
 use Rattle.varint.proofs.Encoding.{length-encode, size-one, size-two}
 use Rattle.lists.specs.declared.AddressEntry.{AddressEntry}
 use Rattle.lists.specs.declared.RouteRange.{RouteRange}
-use Rattle.lists.specs.Scan.{from}
+use Rattle.octets.specs.Scan.{from}
 use Rattle.lists.specs.Words.{maxAddresses, maxRanges, countOf, entryAt, rangeAt, entriesOf, rangesOf}
 use Rattle.lists.proofs.ListScans.{entries-within, ranges-within}
 use Rattle.capsule.specs.Elements.{written}

@@ -14,10 +14,10 @@ use Rattle.answer.specs.declared.Verdict.{Verdict}
 use Rattle.answer.specs.declared.Verdict.the-variants.{Go, Stop}
 use Rattle.lists.specs.declared.AddressEntry.{AddressEntry}
 use Rattle.lists.specs.declared.RouteRange.{RouteRange}
-use Rattle.lists.specs.Scan.{from, anyOf}
+use Rattle.octets.specs.Scan.{from, anyOf}
 use Rattle.lists.specs.Rules.{idOf, inOrder}
 use Rattle.lists.specs.Words.{maxAddresses, maxRanges, countOf, entryAt, rangeAt}
-use Rattle.lists.proofs.Scans.{from-more, from-end}
+use Rattle.octets.proofs.Scans.{from-more, from-end}
 use Rattle.capsule.specs.Elements.{Format, judged, countVerdict}
 use Rattle.capsule.specs.Entries.{entryFormat, rangeFormat, entryFollows, rangeFollows, newest}
 use Rattle.capsule_write.specs.Places.{earlier}

@@ -7,7 +7,7 @@ use native.Mathlib.Omega.{arith}
 use borrow.Author.Tests.{lt-ltb}
 use lib.ListN.{length, getD}
 use Rattle.answer.specs.declared.Verdict.the-variants.{Go}
-use Rattle.lists.specs.Scan.{from, allOf}
+use Rattle.octets.specs.Scan.{from, allOf}
 use Rattle.lists.specs.Words.{countOf, entryAt, rangeAt, entriesOf, rangesOf}
 use Rattle.lists.proofs.ListScans.{entries-within, ranges-within}
 use Rattle.capsule.specs.Capsules.{datagram, assign, request, advertise, capsule, capsuleBytes, readCapsule}

@@ -9,10 +9,10 @@ use lib.ListN.{length, length-append}
 use Rattle.answer.proofs.Tests.{and-both}
 use Rattle.varint.specs.Numbers.{limit}
 use Rattle.lists.specs.declared.AddressEntry.{AddressEntry}
-use Rattle.lists.specs.Scan.{from, allOf}
+use Rattle.octets.specs.Scan.{from, allOf}
 use Rattle.lists.specs.Rules.{idOf, soundEntry}
 use Rattle.lists.specs.Words.{countOf, entryAt, soundAddresses}
-use Rattle.lists.proofs.Scans.{from-more, from-end}
+use Rattle.octets.proofs.Scans.{from-more, from-end}
 use Rattle.lists.proofs.EntryRule.{entry-facts}
 use Rattle.lists.proofs.ListScans.{entries-within, addresses-facts}
 use Rattle.capsule.specs.Elements.{Format, written}

@@ -10,7 +10,7 @@ use Rattle.answer.specs.declared.Verdict.the-variants.{Go}
 use Rattle.answer.specs.Verdict.{stopIf, _then_, _⇒_, firstOf}
 use Rattle.lists.specs.declared.AddressEntry.{AddressEntry}
 use Rattle.lists.specs.declared.RouteRange.{RouteRange}
-use Rattle.lists.specs.Scan.{from}
+use Rattle.octets.specs.Scan.{from}
 use Rattle.lists.specs.Words.{maxAddresses, maxRanges, countOf, entryAt, rangeAt}
 use Rattle.capsule.specs.Elements.{judged, countVerdict}
 use Rattle.capsule.specs.Entries.{entryFormat, rangeFormat}

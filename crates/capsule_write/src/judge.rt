@@ -10,7 +10,7 @@ ghost use mathlib.Core.Bool.{false, _&&_, _||_};
 ghost use mathlib.Core.List.{[]};
 ghost use Prim.Native.Nat.{_≤_, min};
 ghost use lib.Dec.{eqb};
-ghost use Rattle.lists.specs.Scan.{from, anyOf};
+ghost use Rattle.octets.specs.Scan.{from, anyOf};
 ghost use Rattle.lists.specs.Rules.{idOf};
 ghost use Rattle.lists.specs.Words.{maxAddresses, maxRanges, entryAt, rangeAt};
 ghost use Rattle.capsule.specs.Elements.{judged, countVerdict};

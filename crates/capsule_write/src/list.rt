@@ -6,7 +6,7 @@ ghost use mathlib.Core.Path.{_≡_};
 ghost use mathlib.Core.Bool.{true, false};
 ghost use Prim.Native.Nat.{_+_, _*_, _≤_};
 ghost use lib.ListN.{length};
-ghost use Rattle.lists.specs.Scan.{from, allOf};
+ghost use Rattle.octets.specs.Scan.{from, allOf};
 ghost use Rattle.lists.specs.Rules.{soundEntry};
 ghost use Rattle.lists.specs.Words.{maxAddresses, maxRanges, entryAt, rangeAt};
 ghost use Rattle.capsule.specs.Elements.{written};

@@ -19,7 +19,7 @@ use Rattle.answer.specs.Verdict.{stopIf, answerOf}
 use Rattle.answer.proofs.Tables.{done-go, done-count}
 use Rattle.lists.specs.declared.AddressList.{AddressList}
 use Rattle.lists.specs.declared.RouteList.{RouteList}
-use Rattle.lists.specs.Scan.{from, allOf}
+use Rattle.octets.specs.Scan.{from, allOf}
 use Rattle.lists.specs.Words.{countOf, maxAddresses, maxRanges, entryAt, rangeAt, entriesOf, rangesOf}
 use Rattle.capsule.specs.Capsules.{assign, advertise, capsule, capsuleBytes, readCapsule}
 use Rattle.capsule.specs.Sound.{kindOf, startOf, sound-assign, sound-advertise, inWords, entryInWords, rangeInWords}

@@ -1,5 +1,4 @@
 pub mod Calls
-pub mod Scans
 pub mod VersionRule
 pub mod EntryRule
 pub mod RangeRule

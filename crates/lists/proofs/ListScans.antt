@@ -10,10 +10,10 @@ use lib.Dec.{leb}
 use Rattle.answer.proofs.Tests.{and-both}
 use Rattle.lists.specs.declared.AddressEntry.{AddressEntry}
 use Rattle.lists.specs.declared.RouteRange.{RouteRange}
-use Rattle.lists.specs.Scan.{from, anyOf, allOf}
+use Rattle.octets.specs.Scan.{from, anyOf, allOf}
 use Rattle.lists.specs.Rules.{soundEntry, soundRange, inOrder, beforeAll, soundAfter}
 use Rattle.lists.specs.Words.{maxAddresses, maxRanges, countOf, entryAt, rangeAt, entriesOf, rangesOf, soundAddresses, soundRoutes}
-use Rattle.lists.proofs.Scans.{from-more, from-end, Seeking, Checking, any-start, all-start}
+use Rattle.octets.proofs.Scans.{from-more, from-end, Seeking, Checking, any-start, all-start}
 
 module _ (w : List ℕ) where
   -- the elements of a count within the limit, and of one over it

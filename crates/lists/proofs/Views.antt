@@ -10,11 +10,11 @@ use borrow.Author.Tests.{le-leb}
 use Rattle.answer.proofs.Tests.{and-both}
 use Rattle.lists.specs.declared.AddressEntry.{AddressEntry}
 use Rattle.lists.specs.declared.RouteRange.{RouteRange}
-use Rattle.lists.specs.Scan.{from, allOf}
+use Rattle.octets.specs.Scan.{from, allOf}
 use Rattle.lists.specs.Rules.{soundEntry, soundRange, inOrder, beforeAll, soundAfter}
 use Rattle.lists.specs.Words.{maxAddresses, maxRanges, countOf, entryAt, rangeAt, entriesOf, rangesOf, soundAddresses, soundRoutes}
 use Rattle.lists.specs.Words.{entryWords, rangeWords, packEntries, packRanges, noAddresses, noRoutes}
-use Rattle.lists.proofs.Scans.{from-suc, from-same}
+use Rattle.octets.proofs.Scans.{from-suc, from-same}
 use Rattle.lists.proofs.EntryRule as Entry
 use Rattle.lists.proofs.RangeRule as Range
 

@@ -1,4 +1,3 @@
-pub mod Scan
 pub mod Rules
 pub mod Words
 pub mod Examples

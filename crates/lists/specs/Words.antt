@@ -9,7 +9,7 @@ use Rattle.lists.specs.declared.AddressEntry.{AddressEntry}
 use Rattle.lists.specs.declared.AddressList.{AddressList}
 use Rattle.lists.specs.declared.RouteRange.{RouteRange}
 use Rattle.lists.specs.declared.RouteList.{RouteList}
-use Rattle.lists.specs.Scan.{from, allOf}
+use Rattle.octets.specs.Scan.{from, allOf}
 use Rattle.lists.specs.Rules.{idOf, soundEntry, beforeAll, soundAfter}
 
 abbrev pub maxAddresses : ℕ

@@ -27,7 +27,8 @@ use Rattle.plan.specs.Rules.{templateFault, templatesFault, planFault, soundPla
 use Rattle.plan.specs.File.{mark, version, pieceBytes, piecesBytes, sumBytes, shapeBytes, shapesBytes, planBytes}
 use Rattle.plan.specs.File.{Step, stop, found, andThen, mapped, holding, shortestIn, numberIn, twoIn, byteIn, bytesIn, pieceWith, pieceIn, piecesIn}
 use Rattle.plan.specs.File.{pairWith, flagWith, sumIn, shapeWith, bodyIn, shapeIn, shapesIn, ending, countWith, versionWith, markWith, planIn}
-use Rattle.template.proofs.Steps.{window-length, from-length}
+use Rattle.octets.proofs.Scans.{length-from}
+use Rattle.template.proofs.Steps.{window-length}
 use Rattle.template.proofs.PlanFacts.{no-fault}
 
 -- ---- steps over written bytes
@@ -178,7 +179,7 @@ shape-rule previous t e =
     let s = go-rest (ltb maxSegments (t .count)) PlanRule _ r in
     let a = then-first (segmentsFault 0 (segmentsOf t)) _ s in
     let b = then-second (segmentsFault 0 (segmentsOf t)) _ s in
-    let n : length (map (pieceOf (t .bytes)) (segmentsOf t)) ≡ t .count = map-length (pieceOf (t .bytes)) (segmentsOf t) ∙ from-length (segmentAt t) 0 (t .count) in
+    let n : length (map (pieceOf (t .bytes)) (segmentsOf t)) ≡ t .count = map-length (pieceOf (t .bytes)) (segmentsOf t) ∙ length-from (segmentAt t) 0 (t .count) in
     let k = sum-rule (t .checksum) (t .field) (t .start) (segmentsOf t) b in
     and-true i
     (and-true (ap (λ (m : ℕ). leb m maxSegments) n ∙ le-leb (t .count) maxSegments few)
@@ -196,7 +197,7 @@ module _ (plan : Plan) (sound : soundPlan plan ≡ true) where
   unfolding shapesOf planFault
   plan-few =
       let f = ltb-false maxTemplates (plan .count) (go-test (ltb maxTemplates (plan .count)) PlanContext _ (no-fault plan sound)) in
-      let n : length (map shapeOf (templatesOf plan)) ≡ plan .count = map-length shapeOf (templatesOf plan) ∙ from-length (templateAt plan) 0 (plan .count) in
+      let n : length (map shapeOf (templatesOf plan)) ≡ plan .count = map-length shapeOf (templatesOf plan) ∙ length-from (templateAt plan) 0 (plan .count) in
       omega arith
 
   plan-rule : shapesRule 0 (shapesOf plan) ≡ true

@@ -10,6 +10,7 @@ use lib.Seq.{drop-cons}
 use lib.Dec.{eqb}
 use borrow.Author.Tests.{le-leb, lt-leb, eq-eqb, ne-eqb}
 use Rattle.octets.specs.Scan.{from}
+use Rattle.octets.proofs.Scans.{from-more, from-end, length-from}
 use Rattle.plan.specs.declared.Template.{Template}
 use Rattle.plan.specs.declared.Plan.{Plan}
 use Rattle.plan.specs.Shapes.{Piece, sumAt, Shape, window, pieceOf, segmentAt, shapeOf, templateAt, shapesOf}
@@ -17,17 +18,6 @@ use Rattle.template.specs.Pieces.{begins, fitsPieces}
 use Rattle.template.specs.Fits.{fitsSum, fits, full, short, firstFit, withId}
 use Rattle.template.specs.Sound.{SumFacts, SoundShape}
 use Rattle.template.specs.Usable.{piecesOf, SumPlace}
-
-module _ {A : Type 0} where
-  pub from-more : (f : ℕ → A) (i n : ℕ) → i < n → from f i (n - i) ≡ f i ∷ from f (i + 1) (n - (i + 1))
-  from-more f i n h = let k : n - i ≡ suc (n - (i + 1)) = omega arith in rw (k, add-one)
-
-  pub from-end : (f : ℕ → A) (i n : ℕ) → n ≤ i → from f i (n - i) ≡ []
-  from-end f i n h = let k : n - i ≡ 0 = omega arith in rw k
-
-  pub from-length : (f : ℕ → A) (i n : ℕ) → length (from f i n) ≡ n
-  from-length f i zero = refl
-  from-length f i (suc n) = ap suc (from-length f (suc i) n)
 
 -- ---- the segments of a template
 
@@ -39,7 +29,7 @@ unfoldable pub piecesFrom : Template → ℕ → ℕ → List Piece
 piecesFrom t j n = map (pieceOf (t .bytes)) (from (segmentAt t) j n)
 
 pub window-length : (im : List ℕ) (k n : ℕ) → length (window im k n) ≡ n
-window-length im k n = from-length (λ i. getD im i 0) k n
+window-length im k n = length-from (λ i. getD im i 0) k n
 
 pub pieces-all : (t : Template) → piecesOf t ≡ piecesFrom t 0 (t .count - 0)
 unfolding shapeOf piecesFrom

@@ -11,7 +11,7 @@ use Rattle.inet.proofs.HeaderLaws.{isIcmp-6}
 use Rattle.inet.proofs.LoweredLaws.{lowered-sourceOf, lowered-destinationOf, lowered-protocolOf, lowered-isIcmp}
 use Rattle.lists.specs.declared.AddressEntry.{AddressEntry}
 use Rattle.lists.specs.declared.RouteRange.{RouteRange}
-use Rattle.lists.specs.Scan.{anyOf}
+use Rattle.octets.specs.Scan.{anyOf}
 use Rattle.lists.specs.Words.{soundAddresses, soundRoutes}
 use Rattle.verdict.specs.declared.Flow.{Flow}
 use Rattle.verdict.specs.Granted.{flowOf, covers, holds, reaches, granted, passes, reversed, allSound}

@@ -8,7 +8,7 @@ use Rattle.inet.specs.declared.Address.{Address}
 use Rattle.inet.specs.Packet.{sourceOf, destinationOf, protocolOf, isIcmp}
 use Rattle.lists.specs.declared.AddressEntry.{AddressEntry}
 use Rattle.lists.specs.declared.RouteRange.{RouteRange}
-use Rattle.lists.specs.Scan.{anyOf}
+use Rattle.octets.specs.Scan.{anyOf}
 use Rattle.lists.specs.Rules.{widthOf, addressOf, startOf, endOf}
 use Rattle.lists.specs.Words.{soundAddresses, soundRoutes}
 use Rattle.verdict.specs.declared.Flow.{Flow}

@@ -2,7 +2,7 @@
 ghost use mathlib.Core.Path.{_≡_};
 ghost use lib.Dec.{eqb};
 ghost use Rattle.octets.specs.Wide.{wide};
-ghost use Rattle.lists.specs.Scan.{anyOf};
+ghost use Rattle.octets.specs.Scan.{anyOf};
 ghost use Rattle.lists.specs.Rules.{widthOf};
 ghost use Rattle.lists.specs.Words.{entriesOf};
 ghost use Rattle.verdict.specs.Granted.{declined, beyond, highBits, covers};

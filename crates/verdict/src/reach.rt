@@ -1,6 +1,6 @@
 // Route ranges, and the addresses and protocols they let through.
 ghost use mathlib.Core.Path.{_≡_};
-ghost use Rattle.lists.specs.Scan.{anyOf};
+ghost use Rattle.octets.specs.Scan.{anyOf};
 ghost use Rattle.lists.specs.Words.{rangesOf};
 ghost use Rattle.verdict.specs.Granted.{reaches};
 use inet::Address;

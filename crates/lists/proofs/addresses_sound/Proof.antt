@@ -2,7 +2,7 @@
 use Prim.Native.Nat.{_-_}
 use Rattle.lists.specs.Rules.{soundEntry}
 use Rattle.lists.specs.Words.{entryAt, soundAddresses}
-use Rattle.lists.proofs.Scans as Scans
+use Rattle.octets.proofs.Scans as Scans
 use Rattle.lists.proofs.ListScans as List
 use Rattle.lists.proofs.Calls.{called-true, called-false}
 use native.Mathlib.Omega.{arith}

@@ -2,9 +2,9 @@
 use Prim.Native.Nat.{_-_}
 use mathlib.Core.Path.{sym, _∙_}
 use native.Mathlib.Omega.{arith}
-use Rattle.lists.specs.Scan.{anyOf}
+use Rattle.octets.specs.Scan.{anyOf}
 use Rattle.lists.specs.Words.{entryAt, entriesOf}
-use Rattle.lists.proofs.Scans as Scans
+use Rattle.octets.proofs.Scans as Scans
 use Rattle.lists.proofs.ListScans as Lists
 use Rattle.verdict.specs.Granted.{covers}
 use borrow.Author.Needs.{needs}
