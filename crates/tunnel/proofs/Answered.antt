@@ -38,6 +38,10 @@ module _ (g : Grants) (plan : Plan) (p out : List ℕ) where
   unfolding sendAnswer
   passes-verdict e = zero-go (sendVerdict g plan p (length out)) (length (sentBytes plan p)) e
 
+  pub receive-zero : answerNumber (receiveAnswer g plan p out) ≡ 0 → receiveVerdict g plan p (length out) ≡ Go
+  unfolding receiveAnswer
+  receive-zero e = zero-go (receiveVerdict g plan p (length out)) (length (receivedBytes plan p)) e
+
   pub verdict-passes : sendVerdict g plan p (length out) ≡ Go → Passes g plan p out
   unfolding sendAnswer
   verdict-passes e = ap (λ (v : Verdict). answerNumber (answerOf v (length (sentBytes plan p)))) e
