@@ -19,7 +19,9 @@ seed-requires c κs =
 
 put-word-requires : tie.Need-put-word-requires
 put-word-requires c κs =
-    (omega (arith, seedable-inside _ _ (c .before .before .before .before .before .pre) (c .before .before .before .if1 .taken)), omega arith)
+    let s = c .before .before .before .before .before in
+    let e = c .before .before .before .if1 .taken in
+    (omega (arith, seedable-inside _ _ (s .pre) e, sum-facts _ (s .pre .usable .sound) e .order), omega arith)
 
 same-length : tie.Need-same-length
 same-length c = search needs
