@@ -1,5 +1,5 @@
-use native.Mathlib.Omega.{arith}
 -- The entries before i are looked at from the newest on; the invariant is that what is left of them gives the answer (`Looking`).
+use native.Mathlib.Omega.{arith}
 use Rattle.capsule_write.proofs.Judging as Judging
 use borrow.Author.Needs.{needs}
 use Rattle.capsule_write.proofs.judge.id_refused.Statement.{statement}
