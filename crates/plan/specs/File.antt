@@ -1,7 +1,7 @@
 -- The plan file: the mark `VAN`, a 16-bit version 1, the count of templates; for each its Context ID, its segments with their bytes, its checksum.
 use Prim.Native.Nat.{ℕ, zero, suc, _+_}
 use mathlib.Core.Bool.{Bool, true, false, not, _&&_}
-use mathlib.Core.List.{List, [], _∷_, _++_}
+use mathlib.Core.List.{List, [], _∷_, _++_, map}
 use lib.Dec.{leb, ltb, eqb}
 use lib.ListN.{length, take, drop}
 use Rattle.answer.specs.declared.Refusal.{Refusal}
@@ -10,8 +10,9 @@ use Rattle.answer.specs.Choice.{pick}
 use Rattle.varint.specs.declared.NumberRead.{NumberRead}
 use Rattle.varint.specs.declared.NumberRead.the-variants.{Whole, Cut}
 use Rattle.varint.specs.Numbers.{readNumber, encode, shortest}
-use Rattle.plan.specs.Shapes.{Piece, pieceEnd, Sum, noSum, sumAt, Shape}
-use Rattle.plan.specs.Rules.{maxTemplates, maxSegments, idRule, segmentRule, clearOf, sumRule}
+use Rattle.plan.specs.declared.Segment.{Segment}
+use Rattle.plan.specs.Shapes.{Piece, pieceEnd, segmentOf, Sum, noSum, sumAt, Shape}
+use Rattle.plan.specs.Rules.{maxTemplates, maxSegments, idRule, segmentRule, sumRule, allClear, none}
 
 -- ---- writing
 
@@ -53,68 +54,77 @@ abbrev pub andThen : {A B : Type 0} → Step A → (A → List ℕ → Step B) �
 andThen (stop r) next = stop r
 andThen (found a s) next = next a s
 
+-- something made of what is found
+abbrev pub mapped : {A B : Type 0} → (A → B) → Step A → Step B
+mapped f (stop r) = stop r
+mapped f (found a s) = found (f a) s
+
 -- what follows, where a rule holds
 abbrev pub holding : {A : Type 0} → Bool → Refusal → Step A → Step A
 holding true r next = next
 holding false r next = stop r
 
 abbrev pub shortestIn : List ℕ → NumberRead → Step ℕ
-shortestIn s (Whole v n) = pick (shortest v n) (found v (drop n s)) (stop PlanNotShortest)
+shortestIn s (Whole v n) = holding (shortest v n) PlanNotShortest (found v (drop n s))
 shortestIn s Cut = stop PlanCut
 
 -- a number in its shortest form
 unfoldable pub numberIn : List ℕ → Step ℕ
 numberIn s = shortestIn s (readNumber s)
 
+-- two numbers
+unfoldable pub twoIn : List ℕ → Step (ℕ × ℕ)
+twoIn s = andThen (numberIn s) (λ a s₁. mapped (λ b. (a, b)) (numberIn s₁))
+
 abbrev pub byteIn : List ℕ → Step ℕ
 byteIn [] = stop PlanCut
 byteIn (b ∷ s) = found b s
 
 unfoldable pub bytesIn : ℕ → List ℕ → Step (List ℕ)
-bytesIn n s = pick (leb n (length s)) (found (take n s) (drop n s)) (stop PlanCut)
+bytesIn n s = holding (leb n (length s)) PlanCut (found (take n s) (drop n s))
 
 -- a segment is tested before its bytes
+abbrev pub pieceWith : ℕ → ℕ × ℕ → List ℕ → Step Piece
+pieceWith ended n s =
+    holding (segmentRule ended (n .0) (n .1)) PlanRule
+    (mapped (λ bytes. record { offset = n .0; bytes = bytes }) (bytesIn (n .1) s))
+
 unfoldable pub pieceIn : ℕ → List ℕ → Step Piece
-pieceIn ended s =
-    andThen (numberIn s) (λ offset s₁.
-    andThen (numberIn s₁) (λ size s₂.
-    holding (segmentRule ended offset size) PlanRule
-    (andThen (bytesIn size s₂) (λ bytes s₃. found (record { offset = offset; bytes = bytes }) s₃))))
+pieceIn ended s = andThen (twoIn s) (pieceWith ended)
 
 unfoldable pub piecesIn : ℕ → ℕ → List ℕ → Step (List Piece)
 piecesIn zero ended s = found [] s
 piecesIn (suc n) ended s =
-    andThen (pieceIn ended s) (λ p s₁. andThen (piecesIn n (pieceEnd p) s₁) (λ ps s₂. found (p ∷ ps) s₂))
+    andThen (pieceIn ended s) (λ p s₁. mapped (λ ps. p ∷ ps) (piecesIn n (pieceEnd p) s₁))
 
-abbrev pub allClearOf : ℕ → List Piece → Bool
-allClearOf field [] = true
-allClearOf field (p ∷ ps) = clearOf field (p .offset) (length (p .bytes)) && allClearOf field ps
+-- the field offset and the start offset, tested as a pair
+abbrev pub pairWith : List Segment → ℕ × ℕ → List ℕ → Step Sum
+pairWith ss n s = holding (sumRule (n .0) (n .1) && allClear (n .0) ss) PlanRule (found (sumAt (n .0) (n .1)) s)
 
-abbrev pub somePiece : List Piece → Bool
-somePiece [] = false
-somePiece (p ∷ ps) = true
+-- flag 0 with a segment at least, or flag 1 and the pair
+abbrev pub flagWith : List Segment → ℕ → List ℕ → Step Sum
+flagWith ss flag s =
+    pick (eqb flag 0) (holding (not (none ss)) PlanRule (found noSum s))
+    (holding (eqb flag 1) PlanRule (andThen (twoIn s) (pairWith ss)))
 
--- the flag, and for flag 1 the field offset and the start offset, tested as a pair
-unfoldable pub sumIn : List Piece → List ℕ → Step Sum
-sumIn ps s =
-    andThen (byteIn s) (λ flag s₁.
-    pick (eqb flag 0) (holding (somePiece ps) PlanRule (found noSum s₁))
-    (holding (eqb flag 1) PlanRule
-    (andThen (numberIn s₁) (λ field s₂.
-    andThen (numberIn s₂) (λ start s₃. holding (sumRule field start && allClearOf field ps) PlanRule (found (sumAt field start) s₃))))))
+unfoldable pub sumIn : List Segment → List ℕ → Step Sum
+sumIn ss s = andThen (byteIn s) (flagWith ss)
+
+abbrev pub shapeWith : ℕ → List Piece → List ℕ → Step Shape
+shapeWith id ps s = mapped (λ k. record { id = id; pieces = ps; sum = k }) (sumIn (map segmentOf ps) s)
+
+-- what follows the ID: the count of segments, the segments, the checksum
+unfoldable pub bodyIn : ℕ → List ℕ → Step Shape
+bodyIn id s =
+    andThen (byteIn s) (λ n s₁. holding (leb n maxSegments) PlanRule (andThen (piecesIn n 0 s₁) (shapeWith id)))
 
 unfoldable pub shapeIn : ℕ → List ℕ → Step Shape
-shapeIn previous s =
-    andThen (numberIn s) (λ id s₁.
-    holding (idRule previous id) PlanContext
-    (andThen (byteIn s₁) (λ n s₂.
-    holding (leb n maxSegments) PlanRule
-    (andThen (piecesIn n 0 s₂) (λ ps s₃. andThen (sumIn ps s₃) (λ k s₄. found (record { id = id; pieces = ps; sum = k }) s₄))))))
+shapeIn previous s = andThen (numberIn s) (λ id s₁. holding (idRule previous id) PlanContext (bodyIn id s₁))
 
 unfoldable pub shapesIn : ℕ → ℕ → List ℕ → Step (List Shape)
 shapesIn zero previous s = found [] s
 shapesIn (suc n) previous s =
-    andThen (shapeIn previous s) (λ t s₁. andThen (shapesIn n (t .id) s₁) (λ ts s₂. found (t ∷ ts) s₂))
+    andThen (shapeIn previous s) (λ t s₁. mapped (λ ts. t ∷ ts) (shapesIn n (t .id) s₁))
 
 abbrev pub sameBytes : List ℕ → List ℕ → Bool
 sameBytes [] [] = true
@@ -127,11 +137,15 @@ abbrev pub ending : {A : Type 0} → A → List ℕ → Step A
 ending a [] = found a []
 ending a (b ∷ s) = stop PlanCut
 
--- the plan that a file holds
+abbrev pub countWith : ℕ → List ℕ → Step (List Shape)
+countWith n s = holding (leb n maxTemplates) PlanContext (andThen (shapesIn n 0 s) ending)
+
+abbrev pub versionWith : List ℕ → List ℕ → Step (List Shape)
+versionWith v s = holding (sameBytes v version) PlanVersion (andThen (byteIn s) countWith)
+
+abbrev pub markWith : List ℕ → List ℕ → Step (List Shape)
+markWith m s = holding (sameBytes m mark) PlanMark (andThen (bytesIn 2 s) versionWith)
+
+-- the plan that a file holds: mark, version, count, templates, end
 unfoldable pub planIn : List ℕ → Step (List Shape)
-planIn s =
-    andThen (bytesIn 3 s) (λ m s₁.
-    holding (sameBytes m mark) PlanMark
-    (andThen (bytesIn 2 s₁) (λ v s₂.
-    holding (sameBytes v version) PlanVersion
-    (andThen (byteIn s₂) (λ n s₃. holding (leb n maxTemplates) PlanContext (andThen (shapesIn n 0 s₃) ending))))))
+planIn s = andThen (bytesIn 3 s) markWith

@@ -3,15 +3,16 @@ use Prim.Native.Nat.{ℕ, zero, suc, _+_}
 use mathlib.Core.Bool.{Bool, true, false}
 use mathlib.Core.List.{List, [], _∷_, _++_, map}
 use lib.ListN.{length, take, drop, replicate}
+use Rattle.answer.specs.declared.Refusal.{Refusal}
 use Rattle.answer.specs.declared.Verdict.the-variants.{Go, Stop}
 use Rattle.plan.specs.declared.ContextId.{ContextId}
 use Rattle.plan.specs.declared.Segment.{Segment}
 use Rattle.plan.specs.declared.Template.{Template}
 use Rattle.plan.specs.declared.Plan.{Plan}
 use Rattle.plan.specs.declared.PlanRead.{PlanRead}
-use Rattle.plan.specs.Shapes.{Piece, pieceEnd, Sum, noSum, sumAt, Shape, noSegment}
+use Rattle.plan.specs.Shapes.{Piece, pieceEnd, segmentOf, Sum, noSum, sumAt, Shape, noSegment}
 use Rattle.plan.specs.Rules.{maxTemplates, maxSegments, staticLimit}
-use Rattle.plan.specs.File.{Step, stop, found, planIn}
+use Rattle.plan.specs.File.{Step, stop, found, andThen, shapesIn, ending, planIn}
 
 -- the first k of a list, filled up with a blank
 abbrev pub fill : {A : Type 0} → A → ℕ → List A → List A
@@ -30,9 +31,6 @@ blankTemplate =
       field = 0;
       start = 0;
     }
-
-abbrev pub segmentOf : Piece → Segment
-segmentOf p = record { offset = p .offset; length = length (p .bytes) }
 
 -- the pieces pasted into an image
 abbrev pub imageOf : List ℕ → List Piece → List ℕ
@@ -68,9 +66,16 @@ unfoldable pub planOf : List Shape → Plan
 planOf ts = record { count = length ts; templates = fill blankTemplate maxTemplates (map templateOf ts) }
 
 -- a refusal hands back a plan of no templates
+abbrev pub refusedPlan : Refusal → PlanRead
+refusedPlan r = record { verdict = Stop r; plan = planOf [] }
+
 abbrev pub planResult : Step (List Shape) → PlanRead
-planResult (stop r) = record { verdict = Stop r; plan = planOf [] }
+planResult (stop r) = refusedPlan r
 planResult (found ts s) = record { verdict = Go; plan = planOf ts }
+
+-- what n templates and the end of a file give
+abbrev pub templatesResult : ℕ → List ℕ → PlanRead
+templatesResult n s = planResult (andThen (shapesIn n 0 s) ending)
 
 unfoldable pub readPlan : List ℕ → PlanRead
 readPlan s = planResult (planIn s)

@@ -17,6 +17,10 @@ pub record Piece : Type 0 where
 abbrev pub pieceEnd : Piece → ℕ
 pieceEnd p = p .offset + length (p .bytes)
 
+-- the segment where a piece stands
+abbrev pub segmentOf : Piece → Segment
+segmentOf p = record { offset = p .offset; length = length (p .bytes) }
+
 -- the checksum of a template: none, or one whose field stands at an offset and whose sum starts at an offset
 pub data Sum : Type 0 where
   noSum : Sum
