@@ -36,8 +36,8 @@ shape-stop s q e =
 template-same : {n m : ℕ} {ss ts : List Segment} {xs ys : List ℕ} {b c : Bool} {f g h k : ℕ} (id : ℕ)
     → n ≡ m → ss ≡ ts → xs ≡ ys → b ≡ c → f ≡ g → h ≡ k
     → _≡_ {A = Template}
-      (record { id = record { 0 = id }; count = n; segments = ss; bytes = xs; checksum = b; field = f; start = h })
-      (record { id = record { 0 = id }; count = m; segments = ts; bytes = ys; checksum = c; field = g; start = k })
+    (record { id = record { 0 = id }; count = n; segments = ss; bytes = xs; checksum = b; field = f; start = h })
+    (record { id = record { 0 = id }; count = m; segments = ts; bytes = ys; checksum = c; field = g; start = k })
 template-same id e₁ e₂ e₃ e₄ e₅ e₆ = rw (e₁, e₂, e₃, e₄, e₅, e₆)
 
 -- ---- behind the ID

@@ -97,7 +97,7 @@ module _ (s : List ℕ) (at : ℕ) {one : NumberAt} (o : NumberFound s (numberIn
       record {
         within = t .within;
         same = rw (told-go e (o .same), ← t .same)
-        (sym (mapped-told (λ (b : ℕ). (one .value, b)) (two .verdict) (two .value) (drop (two .next) s)));
+            (sym (mapped-told (λ (b : ℕ). (one .value, b)) (two .verdict) (two .value) (drop (two .next) s)));
       }
 
 -- ---- a segment
@@ -130,7 +130,7 @@ module _ (s : List ℕ) (at ended : ℕ) {two : TwoAt} (o : TwoFound s (twoIn (d
           (record {
             within = omega arith;
             same = rw
-            (told-go e (o .same), f, length-drop (two .next) s, le-leb (two .second) (length s - two .next) h, drop-drop (two .second) (two .next) s);
+                (told-go e (o .same), f, length-drop (two .next) s, le-leb (two .second) (length s - two .next) h, drop-drop (two .second) (two .next) s);
           })
 
 -- ---- the checksum
@@ -269,7 +269,7 @@ module _ (s : List ℕ) where
               head-fine m =
                   record {
                     same = rw
-                    (le-leb 3 (length s) h, e, length-drop 3 s, long, two-bytes, z, y, drop-drop 2 3 s, byte-at s 5 k, le-leb (getD s 5 0) maxTemplates m);
+                        (le-leb 3 (length s) h, e, length-drop 3 s, long, two-bytes, z, y, drop-drop 2 3 s, byte-at s 5 k, le-leb (getD s 5 0) maxTemplates m);
                     long = λ f. k;
                     few = λ f. m;
                   }

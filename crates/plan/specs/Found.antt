@@ -95,14 +95,14 @@ joined Go id n parts sum =
       verdict = Go;
       next = sum .next;
       template = record {
-          id = record { 0 = id };
-          count = n;
-          segments = parts .segments;
-          bytes = parts .bytes;
-          checksum = sum .checksum;
-          field = sum .field;
-          start = sum .start;
-        };
+        id = record { 0 = id };
+        count = n;
+        segments = parts .segments;
+        bytes = parts .bytes;
+        checksum = sum .checksum;
+        field = sum .field;
+        start = sum .start;
+      };
     }
 joined (Stop r) id n parts sum = noTemplateAt r
 

@@ -1,12 +1,12 @@
 // A plan file read left to right. Each function finds something at a place of the file and hands back the place behind it, or the refusal.
 use crate::ContextId;
-use crate::Plan;
-use crate::PlanRead;
-use crate::Segment;
-use crate::Template;
 use crate::MAX_SEGMENTS;
 use crate::MAX_TEMPLATES;
+use crate::Plan;
+use crate::PlanRead;
 use crate::STATIC_LIMIT;
+use crate::Segment;
+use crate::Template;
 use crate::rules;
 use answer::Refusal;
 use answer::Verdict;
@@ -317,7 +317,13 @@ fn no_segments(why: Refusal) -> SegmentsAt
 }
 
 // The image with `size` bytes of the file from `start` on put at an offset.
-fn paste(bytes: &[u8], start: usize, size: usize, image: [u8; STATIC_LIMIT], offset: usize) -> [u8; STATIC_LIMIT]
+fn paste(
+    bytes: &[u8],
+    start: usize,
+    size: usize,
+    image: [u8; STATIC_LIMIT],
+    offset: usize,
+) -> [u8; STATIC_LIMIT]
     requires { ⌜ (start + size ≤ length (now bytes)) × (offset + size ≤ staticLimit) ⌝ }
     ensures { λ r. ⌜ r ≡ take offset image ++ (take size (drop start (now (bytes .entry))) ++ drop (offset + size) image) ⌝ }
 {

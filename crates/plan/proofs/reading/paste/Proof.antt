@@ -18,6 +18,7 @@ abbrev μ-loop : tie.MeasureT-loop
 -- <<<
 image-long : (c : tie.Start Inv-loop μ-loop) → length (c .args .image) ≡ 128
 image-long c = search needs
+
 -- >>>
 
 -- src/reading.rt:325:5

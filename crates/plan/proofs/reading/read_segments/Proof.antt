@@ -22,6 +22,7 @@ inside : (c : tie.After-enum-told Inv-loop μ-loop) → c .before .before .read-
 inside c =
     let l = c .before .before .before .before .loop in
     piece-inside (c .before .before .before .before .before .before .args .bytes .now) (drop (l .next) (c .before .before .before .before .before .before .args .bytes .now)) (l .ended) (c .before .before .read-segment .ensures) (c .enum-told .given .1)
+
 -- >>>
 
 -- src/reading.rt:272:5

@@ -1,3 +1,5 @@
+use Rattle.plan.proofs.Calls.{called-true, called-false}
+use Rattle.plan.proofs.Bodies.{shape-stop, id-stop, id-broken, id-fine}
 use borrow.Author.Needs.{needs}
 use Rattle.plan.proofs.reading.read_template.Statement.{statement}
 use Rattle.plan.proofs.reading.read_template.Tie as tie
@@ -26,7 +28,11 @@ no-template-requires c κs = search needs
 
 -- src/reading.rt:187:17
 returns : tie.Need-returns
-returns c = search needs
+returns c =
+    let a = c .before .before .before .before .before .before .before .args in
+    shape-stop (a .bytes .now) (c .no-template .ensures)
+    (id-broken (a .bytes .now) (a .at) (a .previous) (c .before .before .before .before .before .number-at .ensures) (c .before .before .before .enum-told .given .1)
+    (called-false (c .before .before .id-rule .ensures) (c .before .if1 .taken)))
 
 -- src/reading.rt:189:13
 read-body-requires : tie.Need-read-body-requires
@@ -42,11 +48,19 @@ no-template-requires-2 c κs = search needs
 
 -- src/reading.rt:178:1
 returns-2 : tie.Need-returns-2
-returns-2 c = search needs
+returns-2 c =
+    let a = c .before .before .before .before .before .before .before .args in
+    rw
+    (id-fine (a .bytes .now) (a .at) (a .previous) (c .before .before .before .before .before .number-at .ensures) (c .before .before .before .enum-told .given .1)
+    (called-true (c .before .before .id-rule .ensures) (c .before .if1 .left)))
+    (c .read-body .ensures)
 
 -- src/reading.rt:178:1
 returns-3 : tie.Need-returns-3
-returns-3 c = search needs
+returns-3 c =
+    let a = c .before .before .before .before .before .before .args in
+    shape-stop (a .bytes .now) (c .no-template2 .ensures)
+    (id-stop (a .bytes .now) (a .at) (a .previous) (c .before .before .before .before .number-at .ensures) (c .before .before .verdict .given .1))
 
 pub read-template-spec : {M : Type 1} → statement M
 read-template-spec =
