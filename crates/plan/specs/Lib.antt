@@ -2,3 +2,4 @@ pub mod Shapes
 pub mod Rules
 pub mod File
 pub mod Results
+pub mod Found

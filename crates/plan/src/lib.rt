@@ -2,9 +2,11 @@
 // A template says which bytes of a packet are always the same, and which checksum the far end completes. The file is read left to right;
 // refused are a file that is cut or too long (22), a wrong mark (20) or version (21), a number that is not in its shortest form (24), and
 // what breaks a rule (23, and 25 for Context IDs and the count of templates). Writing refuses too small an output first (16).
+mod reading;
 mod rules;
 
 use answer::Verdict;
+pub use reading::read_plan;
 pub use rules::plan_fault;
 pub use rules::plan_sound;
 ghost use mathlib.Core.Path.{_≡_};
