@@ -18,7 +18,7 @@ use Rattle.answer.specs.Verdict.{Writes}
 use Rattle.varint.specs.Numbers.{limit, room, encode, writeVerdict}
 use Rattle.varint.proofs.Encoding.{length-encode, size-bounds}
 use Rattle.varint.proofs.Writing as Number
-use Rattle.inet.specs.Packet.{Form, lowered}
+use Rattle.inet.specs.Packet.{lowered}
 use Rattle.inet.proofs.FormFacts.{form-facts}
 use Rattle.inet.proofs.LoweredLaws.{lowered-length, lowered-Form}
 use Rattle.grant.specs.declared.Grants.{Grants}

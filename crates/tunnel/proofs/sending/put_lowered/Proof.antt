@@ -1,10 +1,9 @@
 -- No templates, or what the search found, say which form the datagram is: `datagram-full`, `datagram-short`. Assumes nothing.
 use Prim.Native.Nat.{ℕ, _<_}
-use mathlib.Core.Path.{_≡_}
 use borrow.Author.Needs.{needs}
 use native.Mathlib.Omega.{arith}
 use Rattle.plan.specs.Shapes.{shapesOf}
-use Rattle.template.specs.declared.Found.the-variants.{At, Nothing}
+use Rattle.template.specs.declared.Found.the-variants.{At}
 use Rattle.template.specs.Fits.{firstFit}
 use Rattle.template.specs.Usable.{Chosen}
 use Rattle.tunnel.proofs.SendingSteps.{chosen-none, chosen-as, chosen-shortable, datagram-full, datagram-short}
