@@ -18,7 +18,7 @@ use Rattle.answer.specs.Verdict.{Writes}
 use Rattle.varint.specs.Numbers.{limit, room, encode, writeVerdict}
 use Rattle.varint.proofs.Encoding.{length-encode, size-bounds}
 use Rattle.varint.proofs.Writing as Number
-use Rattle.inet.specs.Packet.{Form, lowered}
+use Rattle.inet.specs.Packet.{lowered}
 use Rattle.inet.proofs.FormFacts.{form-facts}
 use Rattle.inet.proofs.LoweredLaws.{lowered-length, lowered-Form}
 use Rattle.grant.specs.declared.Grants.{Grants}
@@ -28,9 +28,10 @@ use Rattle.plan.specs.Shapes.{shapeOf, templateAt, shapesOf}
 use Rattle.template.specs.declared.Found.{Found}
 use Rattle.template.specs.declared.Found.the-variants.{At, Nothing}
 use Rattle.template.specs.Pieces.{strip}
-use Rattle.template.specs.Fits.{Choice, firstFit}
+use Rattle.template.specs.Fits.{Choice, full, firstFit}
 use Rattle.template.specs.Datagrams.{seeded, shortForm, fullForm, datagram}
 use Rattle.template.specs.Usable.{UsableTemplate, Chosen, Seedable, Shortenable, Wrote, piecesOf}
+use Rattle.template.proofs.Steps.{shapes-all, find-done}
 use Rattle.template.proofs.Writing.{drop-more, wrote-take, wrote-drop}
 use Rattle.template.proofs.ChosenLaws.{chosen-full, chosen-short, chosen-fits, chosen-usable, fits-seedable, fits-shortenable}
 use Rattle.template.proofs.PlanFacts.{plan-usable}
@@ -119,6 +120,12 @@ module _ (t : Template) (p out : List ℕ) (s : Shortable t p out) where
     wrote-short f = wrote-then w (wrote-as (ap (strip 0 (piecesOf t)) e) f)
 
 -- ---- the form that is chosen
+
+-- where there are no templates, none is chosen
+pub chosen-none : (plan : Plan) (p : List ℕ) → plan .count ≤ 0 → Chosen plan (firstFit (shapesOf plan) p) Nothing
+chosen-none plan p h =
+    let e : firstFit (shapesOf plan) p ≡ full = ap (λ l. firstFit l p) (shapes-all plan) ∙ find-done plan p 0 (plan .count) h in
+    record { choice = sym e; within = tt }
 
 pub chosen-as : {plan : Plan} {c : Choice} {r q : Found} → r ≡ q → Chosen plan c r → Chosen plan c q
 chosen-as e f = rw e at f

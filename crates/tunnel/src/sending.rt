@@ -136,11 +136,14 @@ fn put_datagram(plan: Plan, packet: &[u8], image: &mut [u8], out: &mut [u8]) -> 
     put_lowered(plan, &mut image[..n], out)
 }
 
-// Writes the datagram of a packet: short by the first template that fits, else in full.
+// Writes the datagram of a packet: short by the first template that fits, else in full. A plan of no templates needs no search.
 fn put_lowered(plan: Plan, image: &mut [u8], out: &mut [u8]) -> usize
     requires { ⌜ Puttable plan (now image) (now out) ⌝ }
     ensures { λ r. ⌜ Wrote (datagram (shapesOf plan) (now (image .entry))) 0 (now (out .entry)) (now (out .exit)) r ⌝ }
 {
+    if plan.count == 0 {
+        return put_full(image, out);
+    }
     let found = find(plan, image);
     match found {
         Found::Nothing => put_full(image, out),

@@ -1,6 +1,6 @@
 -- The front of the image is the lowered packet, and its datagram is what is written. Assumes nothing.
 use borrow.Author.Needs.{needs}
-use mathlib.Core.Path.{_≡_, sym, ap, _∙_}
+use mathlib.Core.Path.{sym, ap}
 use Rattle.plan.specs.Shapes.{shapesOf}
 use Rattle.template.specs.Datagrams.{datagram}
 use Rattle.tunnel.proofs.SendingSteps.{wrote-as, front-lowered, front-length, front-puttable}

@@ -9,6 +9,12 @@ use Rattle.tunnel.proofs.SendingSteps.{wrote-full}
 use Rattle.tunnel.proofs.sending.put_full.Statement.{statement}
 use Rattle.tunnel.proofs.sending.put_full.Tie as tie
 
+returns : tie.Need-returns
+returns c =
+    let k = c .before .before in
+    let s = k .before .before .before .before in
+    wrote-full (s .args .image .now) (s .args .out .now) _ (s .pre) (k .copy .ensures .0) (k .copy .ensures .1)
+
 slice-write-out : tie.Need-slice-write-out
 slice-write-out c = search needs
 
@@ -35,12 +41,6 @@ same-length c =
     let k = c .before .before in
     let out = k .before .before .before .before .args .out .now in
     same-len-mid 1 (length (set out 0 0) - 1) (set out 0 0) (k .copy .last .1 .0) (k .copy .kept .1 .0) ∙ length-set out 0 0
-
-returns : tie.Need-returns
-returns c =
-    let k = c .before .before in
-    let s = k .before .before .before .before in
-    wrote-full (s .args .image .now) (s .args .out .now) _ (s .pre) (k .copy .ensures .0) (k .copy .ensures .1)
 
 pub put-full-spec : {M : Type 1} → statement M
 put-full-spec =

@@ -4,7 +4,7 @@ use borrow.Author.Needs.{needs}
 use borrow.Author.Tests.{lt-ltb, le-ltb}
 use native.Mathlib.Omega.{arith}
 use mathlib.Core.Path.{_≡_, sym, ap, _∙_}
-use mathlib.Core.Bool.{true, false, not}
+use mathlib.Core.Bool.{true, not}
 use mathlib.Core.List.{List}
 use Prim.Native.Nat.{ℕ}
 use lib.ListN.{length, drop}
@@ -16,7 +16,6 @@ use Rattle.inet.proofs.FormFacts.{form-facts}
 use Rattle.grant.specs.declared.Grants.{Grants}
 use Rattle.grant.specs.State.{soundGrants, sendingGranted}
 use Rattle.grant.proofs.StateLaws as State
-use Rattle.plan.specs.Rules.{soundPlan}
 use Rattle.template.specs.Datagrams.{maxPacket}
 use Rattle.tunnel.specs.Tunnel.{grantsOf, sendRoom, sendTests, sendVerdict}
 use Rattle.tunnel.proofs.SendingLaws.{broken-lists, broken-plan, sound-state}
