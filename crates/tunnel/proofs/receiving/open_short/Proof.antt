@@ -1,10 +1,15 @@
 -- The search found the template with the Context ID, or there is none. Assumes nothing.
+use Prim.Native.Nat.{_<_}
 use mathlib.Core.Path.{ap}
 use Rattle.template.specs.Datagrams.{openShort}
 use Rattle.tunnel.proofs.ReceivingOpening as Opening
 use borrow.Author.Needs.{needs}
 use Rattle.tunnel.proofs.receiving.open_short.Statement.{statement}
 use Rattle.tunnel.proofs.receiving.open_short.Tie as tie
+
+-- the place that was found
+few : (c : tie.After-known-told) → c .before .found .given .0 .0 < 8
+few c = Opening.found-few _ _ (c .before .before .before .find-id .ensures) _ (c .before .found .given .1) (c .before .before .before .before .before .pre)
 
 find-id-requires : tie.Need-find-id-requires
 find-id-requires c κs = search needs
@@ -16,13 +21,10 @@ enum-known-found : tie.Need-enum-known-found
 enum-known-found c = search needs
 
 mul-t : tie.Need-mul-t
-mul-t c =
-    let h = Opening.found-few _ _ (c .before .before .before .find-id .ensures) _ (c .before .found .given .1) (c .before .before .before .before .before .pre) in
-    search needs
+mul-t c = let h = few c in search needs
 
 element-copy-out-t : tie.Need-element-copy-out-t
-element-copy-out-t c =
-    Opening.found-few _ _ (c .before .before .before .find-id .ensures) _ (c .before .found .given .1) (c .before .before .before .before .before .pre)
+element-copy-out-t c = few c
 
 open-by-requires : tie.Need-open-by-requires
 open-by-requires c κs =
@@ -33,7 +35,9 @@ returns c = Opening.none-opens _ _ (c .before .before .find-id .ensures) _ (c .e
 
 returns-2 : tie.Need-returns-2
 returns-2 c =
-    Opening.opens-as (ap (λ x. openShort (c .before .before .before .before .before .before .before .before .args .body .now) x) (Opening.found-choice _ _ (c .before .before .before .before .before .before .find-id .ensures) _ (c .before .before .before .before .found .given .1))) (c .open-by .ensures)
+    let k = c .before .before .before .before .before .before in
+    Opening.opens-as (ap (openShort (k .before .before .args .body .now)) (Opening.found-choice _ _ (k .find-id .ensures) _ (c .before .before .before .before .found .given .1)))
+    (c .open-by .ensures)
 
 pub open-short-spec : {M : Type 1} → statement M
 open-short-spec =
