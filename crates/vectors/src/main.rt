@@ -1,5 +1,7 @@
 // Runs the numbers of RFC 9000, appendix A.1, and the drivers' examples through the box, and writes what came out, to be compared with the
 // file `stdout`.
+mod packet; // packet.rt: sending and receiving
+
 use answer::Answer;
 use capsule::Outcome;
 use libc::STDOUT_FILENO;
@@ -8,6 +10,7 @@ use varint::NumberRead;
 fn main() {
     numbers();
     capsules();
+    packet::packets();
 }
 
 // Each number is read, and its value written again: a longer form is accepted, and not made.
