@@ -1,0 +1,4 @@
+pub mod Placing
+pub mod Parts
+pub mod Sizes
+pub mod Answers
