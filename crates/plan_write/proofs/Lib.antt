@@ -1,2 +1,6 @@
+pub mod Placing
+pub mod Parts
+pub mod Sizes
+pub mod Answers
 pub mod PlanRead
 pub mod PlanRoundTrip
