@@ -13,7 +13,8 @@ use Rattle.plan.specs.declared.Plan.{Plan}
 use Rattle.plan.specs.Shapes.{window, pieceOf, segmentAt, segmentsOf, shapeOf, templateAt, templatesOf, shapesOf}
 use Rattle.plan.specs.File.{mark, version, pieceBytes, piecesBytes, sumBytes, shapeBytes, shapesBytes, planBytes}
 use Rattle.template.specs.Usable.{UsableTemplate, piecesOf}
-use Rattle.template.proofs.Steps.{from-length, window-length, piecesFrom, pieces-all, pieces-step, pieces-done, shapesFrom, shapes-all, shapes-step, shapes-done}
+use Rattle.octets.proofs.Scans.{length-from}
+use Rattle.template.proofs.Steps.{window-length, piecesFrom, pieces-all, pieces-step, pieces-done, shapesFrom, shapes-all, shapes-step, shapes-done}
 use Rattle.plan_write.specs.Places.{Put}
 use Rattle.plan_write.proofs.Placing.{put-then, put-as, Putting, putting-first}
 
@@ -85,7 +86,7 @@ module _ (t : Template) where
 
   pub length-pieces : length (piecesOf t) ≡ t .count
   unfolding shapeOf
-  length-pieces = length-map (segmentsOf t) (pieceOf (t .bytes)) ∙ from-length (segmentAt t) 0 (t .count)
+  length-pieces = length-map (segmentsOf t) (pieceOf (t .bytes)) ∙ length-from (segmentAt t) 0 (t .count)
 
   template-bytes : encode (t .id .0) ++ (t .count ∷ (piecesBytes (piecesOf t) ++ sumBytes (shapeOf t .sum))) ≡ shapeBytes (shapeOf t)
   unfolding shapeOf
@@ -134,7 +135,7 @@ module _ (plan : Plan) where
 
   length-shapes : length (shapesOf plan) ≡ plan .count
   unfolding shapesOf
-  length-shapes = length-map (templatesOf plan) shapeOf ∙ from-length (templateAt plan) 0 (plan .count)
+  length-shapes = length-map (templatesOf plan) shapeOf ∙ length-from (templateAt plan) 0 (plan .count)
 
   -- ---- the file
 
