@@ -6,3 +6,4 @@ pub mod Pasting
 pub mod Finding
 pub mod Gathering
 pub mod Bodies
+pub mod SoundShapes
