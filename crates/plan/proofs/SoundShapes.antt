@@ -134,7 +134,7 @@ ok-shapes previous (t ∷ ts) o = rw (ok-shape previous t (o .0)) (ok-shapes (t 
 
 -- ---- a plan
 
-sound-go : (v : Verdict) → goes v ≡ true → v ≡ Go
+pub sound-go : (v : Verdict) → goes v ≡ true → v ≡ Go
 sound-go Go e = refl
 sound-go (Stop w) e = let z : _≡_ {A = ℕ} 0 1 = cc in absurd (omega arith)
 
