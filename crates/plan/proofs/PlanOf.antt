@@ -73,7 +73,7 @@ kept image ended (p ∷ ps) l o =
     record {
       long = k .long ∙ n;
       front = sym (take-take ended (pieceEnd p) (imageOf (pasted image p) ps) g) ∙ ap (take ended) (k .front)
-      ∙ take-take ended (pieceEnd p) (pasted image p) g ∙ take-pasted image p w ended b;
+          ∙ take-take ended (pieceEnd p) (pasted image p) g ∙ take-pasted image p w ended b;
     }
 
 -- the pieces are read back from the image that they were pasted into
