@@ -6,3 +6,8 @@ pub mod Pasting
 pub mod Finding
 pub mod Gathering
 pub mod Bodies
+pub mod SoundShapes
+pub mod Encoded
+pub mod Written
+pub mod PlanOf
+pub mod PlanFacts

@@ -3,3 +3,4 @@ pub mod Rules
 pub mod File
 pub mod Results
 pub mod Found
+pub mod Examples

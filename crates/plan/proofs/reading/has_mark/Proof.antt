@@ -1,3 +1,4 @@
+-- `has_mark`: The invariant is `Marking`: the bytes before i are the same. Assumes nothing.
 use Prim.Native.Nat.{_-_}
 use mathlib.Core.Path.{refl}
 use native.Mathlib.Omega.{arith}
@@ -5,8 +6,6 @@ use Rattle.plan.proofs.Steps.{Marking, mark-start, mark-other, mark-nex
 use borrow.Author.Needs.{needs}
 use Rattle.plan.proofs.reading.has_mark.Statement.{statement}
 use Rattle.plan.proofs.reading.has_mark.Tie as tie
-use Rattle.plan.proofs.reading.has_mark.Reads as reads
-use Rattle.plan.proofs.reading.has_mark.Lts as lts
 
 abbrev Inv-loop : tie.InvT-loop
 Inv-loop bytes mark i₀ i = Marking bytes mark i
@@ -14,35 +13,27 @@ Inv-loop bytes mark i₀ i = Marking bytes mark i
 abbrev μ-loop : tie.MeasureT-loop
 μ-loop bytes mark i₀ i = 3 - i
 
--- src/reading.rt:118:5
 loop-holds : tie.Need-loop-holds Inv-loop μ-loop
 loop-holds c = mark-start _ _
 
--- src/reading.rt:119:12
 shared-slice-read-if1 : tie.Need-shared-slice-read-if1 Inv-loop μ-loop
 shared-slice-read-if1 c = search needs
 
--- src/reading.rt:119:24
 element-copy-out-if1 : tie.Need-element-copy-out-if1 Inv-loop μ-loop
 element-copy-out-if1 c = search needs
 
--- src/reading.rt:120:13
 returns : tie.Need-returns Inv-loop μ-loop
 returns c = mark-other (c .before .before .before .before .loop .inv) (c .before .before .before .loop-test .taken) (c .before .before .before .before .before .before .pre) refl (c .if1 .taken)
 
--- src/reading.rt:122:9
 add-i : tie.Need-add-i Inv-loop μ-loop
 add-i c = search needs
 
--- src/reading.rt:118:5
 loop-less : tie.Need-loop-less Inv-loop μ-loop
 loop-less c = search needs
 
--- src/reading.rt:118:5
 loop-again : tie.Need-loop-again Inv-loop μ-loop
 loop-again c = mark-next (c .before .before .before .before .loop .inv) (c .before .before .before .loop-test .taken) (c .before .before .before .before .before .before .pre) refl (c .if1 .left)
 
--- src/reading.rt:112:1
 returns-2 : tie.Need-returns-2 Inv-loop μ-loop
 returns-2 c = mark-end (c .before .loop .inv) (c .loop-test .left) (c .before .before .before .pre) refl
 

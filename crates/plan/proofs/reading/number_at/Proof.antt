@@ -1,67 +1,50 @@
+-- `number_at`: A number of shortest form, one of a longer form, and one that is cut. Assumes nothing.
 use mathlib.Core.Path.{refl, sym, _∙_}
 use native.Mathlib.Omega.{arith}
 use Rattle.plan.proofs.Steps.{number-stop, number-cut, number-end, number-long, number-fine}
 use borrow.Author.Needs.{needs}
 use Rattle.plan.proofs.reading.number_at.Statement.{statement}
 use Rattle.plan.proofs.reading.number_at.Tie as tie
-use Rattle.plan.proofs.reading.number_at.Reads as reads
-use Rattle.plan.proofs.reading.number_at.Lts as lts
-use Rattle.plan.proofs.reading.no_number.Reads as no-number-reads
-use Rattle.varint.proofs.is_shortest.Reads as is-shortest-reads
-use Rattle.varint.proofs.read.Reads as read-reads
 
--- src/reading.rt:460:31
 sub-read : tie.Need-sub-read
 sub-read c = search needs
 
--- src/reading.rt:460:31
 part-read-start : tie.Need-part-read-start
 part-read-start c = search needs
 
--- src/reading.rt:460:31
 part-read-end : tie.Need-part-read-end
 part-read-end c = search needs
 
--- src/reading.rt:460:9
 read-requires : tie.Need-read-requires
 read-requires c κs = search needs
 
--- src/reading.rt:462:29
 enum-known-number : tie.Need-enum-known-number
 enum-known-number c = search needs
 
--- src/reading.rt:463:16
 is-shortest-requires : tie.Need-is-shortest-requires
 is-shortest-requires c κs = search needs
 
--- src/reading.rt:467:27
 add-t13 : tie.Need-add-t13
 add-t13 c = let a = c .before .before .before .before .before .before .before .before .args in omega (arith, number-end (a .bytes .now) (a .at) (c .before .before .before .before .before .read .ensures .reading) (c .before .before .before .number .given .1) (c .before .before .before .before .before .before .before .before .pre))
 
--- src/reading.rt:464:17
 returns : tie.Need-returns
 returns c = let a = c .before .before .before .before .before .before .before .before .args in number-fine (a .bytes .now) (a .at) (c .before .before .before .before .before .read .ensures .reading) (c .before .before .before .number .given .1) (c .before .before .before .before .before .before .before .before .pre) (sym (c .before .is-shortest .ensures) ∙ c .if1 .taken) refl
 
--- src/reading.rt:470:13
 no-number-requires : tie.Need-no-number-requires
 no-number-requires c κs = search needs
 
--- src/reading.rt:472:38
 enum-told : tie.Need-enum-told
 enum-told c = search needs
 
--- src/reading.rt:472:28
 no-number-requires-2 : tie.Need-no-number-requires-2
 no-number-requires-2 c κs = search needs
 
--- src/reading.rt:456:1
 returns-2 : tie.Need-returns-2
 returns-2 c =
     let a = c .before .before .before .before .before .before .before .before .before .args in
     number-stop (a .bytes .now) (a .at) (c .no-number .ensures)
     (number-long (a .bytes .now) (a .at) (c .before .before .before .before .before .before .read .ensures .reading) (c .before .before .before .before .number .given .1) (sym (c .before .before .is-shortest .ensures) ∙ c .before .if1 .left))
 
--- src/reading.rt:456:1
 returns-3 : tie.Need-returns-3
 returns-3 c =
     let a = c .before .before .before .before .before .before .args in

@@ -1,3 +1,4 @@
+-- `read_checksum`: By the flag: each return is one case of `sumIn`. Assumes nothing.
 use mathlib.Core.Path.{refl, sym, _∙_, subst}
 use native.Mathlib.Omega.{arith}
 use lib.ListN.{length}
@@ -6,71 +7,54 @@ use Rattle.plan.proofs.Steps.{none-zero, none-some, sum-stop, sum-none,
 use borrow.Author.Needs.{needs}
 use Rattle.plan.proofs.reading.read_checksum.Statement.{statement}
 use Rattle.plan.proofs.reading.read_checksum.Tie as tie
-use Rattle.plan.proofs.reading.read_checksum.Reads as reads
-use Rattle.plan.proofs.reading.read_checksum.Lts as lts
-use Rattle.plan.proofs.reading.no_checksum.Reads as no-checksum-reads
-use Rattle.plan.proofs.reading.read_pair.Reads as read-pair-reads
 
--- src/reading.rt:373:9
 no-checksum-requires : tie.Need-no-checksum-requires
 no-checksum-requires c κs = search needs
 
--- src/reading.rt:373:9
 returns : tie.Need-returns
 returns c =
     let a = c .before .before .before .args in
     sum-stop (a .bytes .now) (c .no-checksum .ensures) (flag-cut (a .bytes .now) (a .at) (segmentsIn (a .segments) (a .n)) (c .before .if1 .taken))
 
--- src/reading.rt:375:16
 shared-slice-read-flag : tie.Need-shared-slice-read-flag
 shared-slice-read-flag c = search needs
 
--- src/reading.rt:378:13
 no-checksum-requires-2 : tie.Need-no-checksum-requires-2
 no-checksum-requires-2 c κs = search needs
 
--- src/reading.rt:378:13
 returns-2 : tie.Need-returns-2
 returns-2 c =
     let a = c .before .before .before .before .before .before .args in
     sum-stop (a .bytes .now) (c .no-checksum2 .ensures)
     (flag-none (a .bytes .now) (a .at) (segmentsIn (a .segments) (a .n)) (c .before .before .before .before .if1 .left) (c .before .before .if2 .taken) (none-zero (a .segments) (a .n) (c .before .if3 .taken)))
 
--- src/reading.rt:380:41
 add-no-checksum : tie.Need-add-no-checksum
 add-no-checksum c = search needs
 
--- src/reading.rt:380:9
 no-checksum-requires-3 : tie.Need-no-checksum-requires-3
 no-checksum-requires-3 c κs = search needs
 
--- src/reading.rt:380:9
 returns-3 : tie.Need-returns-3
 returns-3 c =
     let a = c .before .before .before .before .before .before .args in
     sum-none (a .bytes .now) (c .no-checksum3 .ensures) (omega arith)
     (flag-zero (a .bytes .now) (a .at) (segmentsIn (a .segments) (a .n)) (c .before .before .before .before .if1 .left) (c .before .before .if2 .taken) (none-some (a .segments) (a .n) (c .before .if3 .left)))
 
--- src/reading.rt:383:9
 no-checksum-requires-4 : tie.Need-no-checksum-requires-4
 no-checksum-requires-4 c κs = search needs
 
--- src/reading.rt:383:9
 returns-4 : tie.Need-returns-4
 returns-4 c =
     let a = c .before .before .before .before .before .before .args in
     sum-stop (a .bytes .now) (c .no-checksum4 .ensures)
     (flag-other (a .bytes .now) (a .at) (segmentsIn (a .segments) (a .n)) (c .before .before .before .before .if1 .left) (c .before .before .if2 .left) (c .before .if4 .taken))
 
--- src/reading.rt:385:22
 add-read-pair : tie.Need-add-read-pair
 add-read-pair c = search needs
 
--- src/reading.rt:385:5
 read-pair-requires : tie.Need-read-pair-requires
 read-pair-requires c κs = search needs
 
--- src/reading.rt:368:1
 returns-5 : tie.Need-returns-5
 returns-5 c =
     let a = c .before .before .before .before .before .before .args in

@@ -1,3 +1,4 @@
+-- `read_pair`: Two numbers and the rule of the pair. Assumes nothing.
 use mathlib.Core.Path.{refl}
 use Rattle.plan.specs.Shapes.{segmentsIn}
 use Rattle.plan.proofs.Calls.{called-true, called-false}
@@ -5,30 +6,19 @@ use Rattle.plan.proofs.Steps.{sum-stop, pair-two, pair-broken, pair-cov
 use borrow.Author.Needs.{needs}
 use Rattle.plan.proofs.reading.read_pair.Statement.{statement}
 use Rattle.plan.proofs.reading.read_pair.Tie as tie
-use Rattle.plan.proofs.reading.read_pair.Reads as reads
-use Rattle.plan.proofs.reading.read_pair.Lts as lts
-use Rattle.plan.proofs.reading.no_checksum.Reads as no-checksum-reads
-use Rattle.plan.proofs.reading.two_at.Reads as two-at-reads
-use Rattle.plan.proofs.rules.all_clear.Reads as all-clear-reads
-use Rattle.plan.proofs.rules.sum_rule.Reads as sum-rule-reads
 
--- src/reading.rt:393:9
 two-at-requires : tie.Need-two-at-requires
 two-at-requires c κs = search needs
 
--- src/reading.rt:397:17
 enum-told : tie.Need-enum-told
 enum-told c = search needs
 
--- src/reading.rt:398:17
 sum-rule-requires : tie.Need-sum-rule-requires
 sum-rule-requires c κs = search needs
 
--- src/reading.rt:399:17
 no-checksum-requires : tie.Need-no-checksum-requires
 no-checksum-requires c κs = search needs
 
--- src/reading.rt:399:17
 returns : tie.Need-returns
 returns c =
     let a = c .before .before .before .before .before .before .before .args in
@@ -36,15 +26,12 @@ returns c =
     (pair-broken (a .bytes .now) (a .at) (segmentsIn (a .segments) (a .n)) (c .before .before .before .before .before .two-at .ensures) (c .before .before .before .enum-told .given .1)
     (called-false (c .before .before .sum-rule .ensures) (c .before .if1 .taken)))
 
--- src/reading.rt:401:17
 all-clear-requires : tie.Need-all-clear-requires
 all-clear-requires c κs = search needs
 
--- src/reading.rt:402:17
 no-checksum-requires-2 : tie.Need-no-checksum-requires-2
 no-checksum-requires-2 c κs = search needs
 
--- src/reading.rt:402:17
 returns-2 : tie.Need-returns-2
 returns-2 c =
     let a = c .before .before .before .before .before .before .before .before .before .args in
@@ -52,22 +39,18 @@ returns-2 c =
     (pair-covered (a .bytes .now) (a .at) (segmentsIn (a .segments) (a .n)) (c .before .before .before .before .before .before .before .two-at .ensures) (c .before .before .before .before .before .enum-told .given .1)
     (called-false (c .before .before .all-clear .ensures) (c .before .if2 .taken)))
 
--- src/reading.rt:412:23
 enum-known-verdict : tie.Need-enum-known-verdict
 enum-known-verdict c = search needs
 
--- src/reading.rt:412:31
 no-checksum-requires-3 : tie.Need-no-checksum-requires-3
 no-checksum-requires-3 c κs = search needs
 
--- src/reading.rt:389:1
 returns-3 : tie.Need-returns-3
 returns-3 c =
     let a = c .before .before .before .before .before .before .before .before .args in
     pair-fine (a .bytes .now) (a .at) (segmentsIn (a .segments) (a .n)) (c .before .before .before .before .before .before .two-at .ensures) (c .before .before .before .before .enum-told .given .1)
     (called-true (c .before .before .before .sum-rule .ensures) (c .before .before .if1 .left)) (called-true (c .before .all-clear .ensures) (c .if2 .left)) refl
 
--- src/reading.rt:389:1
 returns-4 : tie.Need-returns-4
 returns-4 c =
     let a = c .before .before .before .before .before .before .args in

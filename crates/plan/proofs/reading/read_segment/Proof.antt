@@ -1,3 +1,4 @@
+-- `read_segment`: Two numbers, the rule, and then the bytes: each return is one step of `pieceIn`. Assumes nothing.
 use mathlib.Core.Path.{refl}
 use native.Mathlib.Omega.{arith}
 use Rattle.plan.proofs.Calls.{called-true, called-false}
@@ -5,29 +6,19 @@ use Rattle.plan.proofs.Steps.{piece-stop, piece-two, piece-broken, piec
 use borrow.Author.Needs.{needs}
 use Rattle.plan.proofs.reading.read_segment.Statement.{statement}
 use Rattle.plan.proofs.reading.read_segment.Tie as tie
-use Rattle.plan.proofs.reading.read_segment.Reads as reads
-use Rattle.plan.proofs.reading.read_segment.Lts as lts
-use Rattle.plan.proofs.reading.no_segment.Reads as no-segment-reads
-use Rattle.plan.proofs.reading.two_at.Reads as two-at-reads
-use Rattle.plan.proofs.rules.segment_rule.Reads as segment-rule-reads
 
--- src/reading.rt:335:9
 two-at-requires : tie.Need-two-at-requires
 two-at-requires c κs = search needs
 
--- src/reading.rt:339:17
 enum-told : tie.Need-enum-told
 enum-told c = search needs
 
--- src/reading.rt:339:17
 segment-rule-requires : tie.Need-segment-rule-requires
 segment-rule-requires c κs = search needs
 
--- src/reading.rt:340:17
 no-segment-requires : tie.Need-no-segment-requires
 no-segment-requires c κs = search needs
 
--- src/reading.rt:340:17
 returns : tie.Need-returns
 returns c =
     let a = c .before .before .before .before .before .before .before .args in
@@ -35,15 +26,12 @@ returns c =
     (piece-broken (a .bytes .now) (a .at) (a .ended) (c .before .before .before .before .before .two-at .ensures) (c .before .before .before .enum-told .given .1)
     (called-false (c .before .before .segment-rule .ensures) (c .before .if1 .taken)))
 
--- src/reading.rt:342:16
 sub-if2 : tie.Need-sub-if2
 sub-if2 c = search needs
 
--- src/reading.rt:343:17
 no-segment-requires-2 : tie.Need-no-segment-requires-2
 no-segment-requires-2 c κs = search needs
 
--- src/reading.rt:343:17
 returns-2 : tie.Need-returns-2
 returns-2 c =
     let a = c .before .before .before .before .before .before .before .before .before .before .args in
@@ -51,22 +39,18 @@ returns-2 c =
     (piece-cut (a .bytes .now) (a .at) (a .ended) (c .before .before .before .before .before .before .before .before .two-at .ensures) (c .before .before .before .before .before .before .enum-told .given .1)
     (called-true (c .before .before .before .before .before .segment-rule .ensures) (c .before .before .before .before .if1 .left)) (c .before .if2 .taken))
 
--- src/reading.rt:352:23
 enum-known-verdict : tie.Need-enum-known-verdict
 enum-known-verdict c = search needs
 
--- src/reading.rt:352:31
 no-segment-requires-3 : tie.Need-no-segment-requires-3
 no-segment-requires-3 c κs = search needs
 
--- src/reading.rt:331:1
 returns-3 : tie.Need-returns-3
 returns-3 c =
     let a = c .before .before .before .before .before .before .before .before .before .args in
     piece-fine (a .bytes .now) (a .at) (a .ended) (c .before .before .before .before .before .before .before .two-at .ensures) (c .before .before .before .before .before .enum-told .given .1)
     (called-true (c .before .before .before .before .segment-rule .ensures) (c .before .before .before .if1 .left)) (c .if2 .left) refl
 
--- src/reading.rt:331:1
 returns-4 : tie.Need-returns-4
 returns-4 c =
     let a = c .before .before .before .before .before .before .args in

@@ -1,3 +1,4 @@
+-- `read_segments`: The invariant is `Gathering`: what was found, before what is still to be read, is what the whole step finds. Assumes nothing.
 use Prim.Native.Nat.{_+_, _-_, _≤_}
 use native.Mathlib.Omega.{arith}
 use lib.ListN.{drop}
@@ -5,11 +6,6 @@ use Rattle.plan.proofs.Gathering.{Gathering, gather, gather-next, gathe
 use borrow.Author.Needs.{needs}
 use Rattle.plan.proofs.reading.read_segments.Statement.{statement}
 use Rattle.plan.proofs.reading.read_segments.Tie as tie
-use Rattle.plan.proofs.reading.read_segments.Reads as reads
-use Rattle.plan.proofs.reading.read_segments.Lts as lts
-use Rattle.plan.proofs.reading.no_segments.Reads as no-segments-reads
-use Rattle.plan.proofs.reading.paste.Reads as paste-reads
-use Rattle.plan.proofs.reading.read_segment.Reads as read-segment-reads
 
 abbrev Inv-loop : tie.InvT-loop
 Inv-loop bytes at n segments₀ image₀ ended₀ next₀ j₀ segments image ended next j = Gathering bytes at n segments image ended next j
@@ -17,71 +13,53 @@ Inv-loop bytes at n segments₀ image₀ ended₀ next₀ j₀ segments image en
 abbrev μ-loop : tie.MeasureT-loop
 μ-loop bytes at n segments₀ image₀ ended₀ next₀ j₀ segments image ended next j = n - j
 
--- <<<
 inside : (c : tie.After-enum-told Inv-loop μ-loop) → c .before .before .read-segment .result .offset + c .before .before .read-segment .result .size ≤ 128
 inside c =
     let l = c .before .before .before .before .loop in
     piece-inside (c .before .before .before .before .before .before .args .bytes .now) (drop (l .next) (c .before .before .before .before .before .before .args .bytes .now)) (l .ended) (c .before .before .read-segment .ensures) (c .enum-told .given .1)
 
--- >>>
-
--- src/reading.rt:272:5
 loop-holds : tie.Need-loop-holds Inv-loop μ-loop
 loop-holds c = gather _ _ _ (c .before .pre .0)
 
--- src/reading.rt:273:13
 read-segment-requires : tie.Need-read-segment-requires Inv-loop μ-loop
 read-segment-requires c κs = c .before .loop .inv .within
 
--- src/reading.rt:277:21
 enum-told : tie.Need-enum-told Inv-loop μ-loop
 enum-told c = search needs
 
--- src/reading.rt:279:17
 mul-segments : tie.Need-mul-segments Inv-loop μ-loop
 mul-segments c = omega (arith, c .before .before .before .before .loop .inv .turn, c .before .before .before .before .before .before .pre .1)
 
--- src/reading.rt:279:17
 array-set-from-segments : tie.Need-array-set-from-segments Inv-loop μ-loop
 array-set-from-segments c = omega (arith, c .before .before .before .before .before .before .pre .1)
 
--- src/reading.rt:283:21
 paste-requires : tie.Need-paste-requires Inv-loop μ-loop
 paste-requires c κs = (c .before .before .read-segment .ensures .within, inside c)
 
--- src/reading.rt:285:25
 add-ended : tie.Need-add-ended Inv-loop μ-loop
 add-ended c = omega (arith, inside (c .before))
 
--- src/reading.rt:286:24
 add-next : tie.Need-add-next Inv-loop μ-loop
 add-next c = omega (arith, c .before .before .before .before .read-segment .ensures .within)
 
--- src/reading.rt:287:17
 add-j : tie.Need-add-j Inv-loop μ-loop
 add-j c = omega (arith, c .before .before .before .before .before .before .before .before .pre .1)
 
--- src/reading.rt:272:5
 loop-less : tie.Need-loop-less Inv-loop μ-loop
 loop-less c = omega arith
 
--- src/reading.rt:272:5
 loop-again : tie.Need-loop-again Inv-loop μ-loop
 loop-again c = gather-next (c .before .before .before .before .before .before .loop .inv) (c .before .before .before .before .before .loop-test .taken) (c .before .before .before .before .read-segment .ensures) (omega (arith, c .before .before .before .before .before .before .before .before .pre .1)) (c .before .before .enum-told .given .1) (c .before .paste .ensures)
 
--- src/reading.rt:289:27
 enum-known-verdict : tie.Need-enum-known-verdict Inv-loop μ-loop
 enum-known-verdict c = search needs
 
--- src/reading.rt:290:17
 no-segments-requires : tie.Need-no-segments-requires Inv-loop μ-loop
 no-segments-requires c κs = search needs
 
--- src/reading.rt:290:17
 returns : tie.Need-returns Inv-loop μ-loop
 returns c = gather-stop (c .before .before .before .before .before .before .loop .inv) (c .before .before .before .before .before .loop-test .taken) (c .before .before .before .before .read-segment .ensures) (c .before .before .verdict .given .1) (c .no-segments .ensures)
 
--- src/reading.rt:259:1
 returns-2 : tie.Need-returns-2 Inv-loop μ-loop
 returns-2 c = gather-end (c .before .loop .inv) (c .loop-test .left)
 

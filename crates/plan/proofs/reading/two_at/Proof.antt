@@ -1,32 +1,24 @@
+-- `two_at`: One number behind another. Assumes nothing.
 use Rattle.plan.proofs.Steps.{two-stop, two-fine}
 use borrow.Author.Needs.{needs}
 use Rattle.plan.proofs.reading.two_at.Statement.{statement}
 use Rattle.plan.proofs.reading.two_at.Tie as tie
-use Rattle.plan.proofs.reading.two_at.Reads as reads
-use Rattle.plan.proofs.reading.two_at.Lts as lts
-use Rattle.plan.proofs.reading.number_at.Reads as number-at-reads
 
--- src/reading.rt:433:9
 number-at-requires : tie.Need-number-at-requires
 number-at-requires c κs = search needs
 
--- src/reading.rt:437:17
 enum-told : tie.Need-enum-told
 enum-told c = search needs
 
--- src/reading.rt:437:17
 number-at-requires-2 : tie.Need-number-at-requires-2
 number-at-requires-2 c κs = search needs
 
--- src/reading.rt:446:23
 enum-known-verdict : tie.Need-enum-known-verdict
 enum-known-verdict c = search needs
 
--- src/reading.rt:429:1
 returns : tie.Need-returns
 returns c = let a = c .before .before .before .before .before .args in two-fine (a .bytes .now) (a .at) (c .before .before .before .number-at .ensures) (c .before .enum-told .given .1) (c .number-at2 .ensures)
 
--- src/reading.rt:429:1
 returns-2 : tie.Need-returns-2
 returns-2 c = let a = c .before .before .before .before .before .args in two-stop (a .bytes .now) (a .at) (c .before .before .before .number-at .ensures) (c .before .verdict .given .1)
 

@@ -1,28 +1,21 @@
+-- `with_checksum`: By the verdict on the checksum. Assumes nothing.
 use mathlib.Core.Path.{sym, ap}
 use borrow.Author.Needs.{needs}
 use Rattle.plan.proofs.reading.with_checksum.Statement.{statement}
 use Rattle.plan.proofs.reading.with_checksum.Tie as tie
-use Rattle.plan.proofs.reading.with_checksum.Reads as reads
-use Rattle.plan.proofs.reading.with_checksum.Lts as lts
-use Rattle.plan.proofs.reading.no_template.Reads as no-template-reads
 
--- src/reading.rt:226:17
 enum-told : tie.Need-enum-told
 enum-told c = search needs
 
--- src/reading.rt:243:23
 enum-known-fault : tie.Need-enum-known-fault
 enum-known-fault c = search needs
 
--- src/reading.rt:243:31
 no-template-requires : tie.Need-no-template-requires
 no-template-requires c κs = search needs
 
--- src/reading.rt:220:1
 returns : tie.Need-returns
 returns c = rw (c .before .before .enum-told .given .1)
 
--- src/reading.rt:220:1
 returns-2 : tie.Need-returns-2
 returns-2 c = rw (c .before .before .fault .given .1) (c .no-template .ensures)
 

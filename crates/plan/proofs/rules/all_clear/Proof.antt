@@ -1,3 +1,4 @@
+-- `all_clear`: The invariant is `Clearing`: what the segments not yet seen say is the answer. Assumes nothing.
 use Prim.Native.Nat.{_-_}
 use mathlib.Core.Path.{refl}
 use native.Mathlib.Omega.{arith}
@@ -6,9 +7,6 @@ use Rattle.plan.proofs.Judging.{Clearing, clear, clear-broken, clear-ne
 use borrow.Author.Needs.{needs}
 use Rattle.plan.proofs.rules.all_clear.Statement.{statement}
 use Rattle.plan.proofs.rules.all_clear.Tie as tie
-use Rattle.plan.proofs.rules.all_clear.Reads as reads
-use Rattle.plan.proofs.rules.all_clear.Lts as lts
-use Rattle.plan.proofs.rules.clear_of.Reads as clear-of-reads
 
 abbrev Inv-loop : tie.InvT-loop
 Inv-loop field n segments j₀ j = Clearing field segments n j
@@ -16,39 +14,30 @@ Inv-loop field n segments j₀ j = Clearing field segments n j
 abbrev μ-loop : tie.MeasureT-loop
 μ-loop field n segments j₀ j = n - j
 
--- src/rules.rt:160:5
 loop-holds : tie.Need-loop-holds Inv-loop μ-loop
 loop-holds c = clear _ _ _
 
--- src/rules.rt:161:17
 mul-s : tie.Need-mul-s Inv-loop μ-loop
 mul-s c = omega arith
 
--- src/rules.rt:161:17
 array-copy-out-s : tie.Need-array-copy-out-s Inv-loop μ-loop
 array-copy-out-s c = omega arith
 
--- src/rules.rt:162:13
 clear-of-requires : tie.Need-clear-of-requires Inv-loop μ-loop
 clear-of-requires c κs = search needs
 
--- src/rules.rt:163:13
 returns : tie.Need-returns Inv-loop μ-loop
 returns c = clear-broken (c .before .before .before .before .loop .inv) (c .before .before .before .loop-test .taken) refl (called-false (c .before .clear-of .ensures) (c .if1 .taken))
 
--- src/rules.rt:165:9
 add-j : tie.Need-add-j Inv-loop μ-loop
 add-j c = omega arith
 
--- src/rules.rt:160:5
 loop-less : tie.Need-loop-less Inv-loop μ-loop
 loop-less c = omega arith
 
--- src/rules.rt:160:5
 loop-again : tie.Need-loop-again Inv-loop μ-loop
 loop-again c = clear-next (c .before .before .before .before .loop .inv) (c .before .before .before .loop-test .taken) refl (called-true (c .before .clear-of .ensures) (c .if1 .left))
 
--- src/rules.rt:155:1
 returns-2 : tie.Need-returns-2 Inv-loop μ-loop
 returns-2 c = clear-end (c .before .loop .inv) (c .loop-test .left)
 

@@ -1,19 +1,15 @@
+-- `clear_of`: The two cases of `clearOf`, before the segment and behind it. Assumes nothing.
 use Rattle.plan.proofs.RuleCases.{clear-before, clear-behind}
 use borrow.Author.Needs.{needs}
 use Rattle.plan.proofs.rules.clear_of.Statement.{statement}
 use Rattle.plan.proofs.rules.clear_of.Tie as tie
-use Rattle.plan.proofs.rules.clear_of.Reads as reads
-use Rattle.plan.proofs.rules.clear_of.Lts as lts
 
--- src/rules.rt:175:21
 sub-result : tie.Need-sub-result
 sub-result c = search needs
 
--- src/rules.rt:175:9
 returns : tie.Need-returns
 returns c = clear-before _ _ _ (c .if1 .taken)
 
--- src/rules.rt:171:1
 returns-2 : tie.Need-returns-2
 returns-2 c = clear-behind _ _ _ (c .if1 .left)
 

@@ -1,3 +1,4 @@
+-- `plan_fault`: The invariant is `Sounding`: what the templates not yet seen say is the answer. Assumes nothing.
 use Prim.Native.Nat.{_-_}
 use mathlib.Core.Path.{refl}
 use native.Mathlib.Omega.{arith}
@@ -5,9 +6,6 @@ use Rattle.plan.proofs.Judging.{Sounding, sound-over, sound-start, soun
 use borrow.Author.Needs.{needs}
 use Rattle.plan.proofs.rules.plan_fault.Statement.{statement}
 use Rattle.plan.proofs.rules.plan_fault.Tie as tie
-use Rattle.plan.proofs.rules.plan_fault.Reads as reads
-use Rattle.plan.proofs.rules.plan_fault.Lts as lts
-use Rattle.plan.proofs.rules.template_fault.Reads as template-fault-reads
 
 abbrev Inv-loop : tie.InvT-loop
 Inv-loop plan n previous₀ i₀ previous i = Sounding plan previous i
@@ -15,51 +13,39 @@ Inv-loop plan n previous₀ i₀ previous i = Sounding plan previous i
 abbrev μ-loop : tie.MeasureT-loop
 μ-loop plan n previous₀ i₀ previous i = n - i
 
--- src/rules.rt:21:9
 returns : tie.Need-returns Inv-loop μ-loop
 returns c = sound-over _ (c .if1 .taken)
 
--- src/rules.rt:25:5
 loop-holds : tie.Need-loop-holds Inv-loop μ-loop
 loop-holds c = sound-start _ (c .if1 .left)
 
--- src/rules.rt:26:17
 mul-t : tie.Need-mul-t Inv-loop μ-loop
 mul-t c = omega arith
 
--- src/rules.rt:26:17
 element-copy-out-t : tie.Need-element-copy-out-t Inv-loop μ-loop
 element-copy-out-t c = omega arith
 
--- src/rules.rt:27:13
 template-fault-requires : tie.Need-template-fault-requires Inv-loop μ-loop
 template-fault-requires c κs = search needs
 
--- src/rules.rt:30:21
 enum-told : tie.Need-enum-told Inv-loop μ-loop
 enum-told c = search needs
 
--- src/rules.rt:32:17
 add-i : tie.Need-add-i Inv-loop μ-loop
 add-i c = omega arith
 
--- src/rules.rt:25:5
 loop-less : tie.Need-loop-less Inv-loop μ-loop
 loop-less c = omega arith
 
--- src/rules.rt:25:5
 loop-again : tie.Need-loop-again Inv-loop μ-loop
 loop-again c = sound-next (c .before .before .before .before .before .before .loop .inv) (c .before .before .before .before .before .loop-test .taken) refl (c .before .before .before .template-fault .ensures) (c .before .enum-told .given .1)
 
--- src/rules.rt:34:27
 enum-known-fault : tie.Need-enum-known-fault Inv-loop μ-loop
 enum-known-fault c = search needs
 
--- src/rules.rt:35:17
 returns-2 : tie.Need-returns-2 Inv-loop μ-loop
 returns-2 c = sound-broken (c .before .before .before .before .before .before .loop .inv) (c .before .before .before .before .before .loop-test .taken) refl (c .before .before .before .template-fault .ensures) (c .before .fault .given .1)
 
--- src/rules.rt:16:1
 returns-3 : tie.Need-returns-3 Inv-loop μ-loop
 returns-3 c = sound-end (c .before .loop .inv) (c .loop-test .left)
 

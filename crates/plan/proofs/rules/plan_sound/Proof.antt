@@ -1,30 +1,23 @@
+-- `plan_sound`: The verdict of `plan_fault`, as a test. Assumes nothing.
 use mathlib.Core.Path.{_≡_, refl, ap, sym, _∙_}
 use Rattle.plan.specs.Rules.{goes, soundPlan}
 use borrow.Author.Needs.{needs}
 use Rattle.plan.proofs.rules.plan_sound.Statement.{statement}
 use Rattle.plan.proofs.rules.plan_sound.Tie as tie
-use Rattle.plan.proofs.rules.plan_sound.Reads as reads
-use Rattle.plan.proofs.rules.plan_sound.Lts as lts
-use Rattle.plan.proofs.rules.plan_fault.Reads as plan-fault-reads
 
--- src/rules.rt:46:9
 plan-fault-requires : tie.Need-plan-fault-requires
 plan-fault-requires c κs = search needs
 
--- src/rules.rt:48:24
 enum-told : tie.Need-enum-told
 enum-told c = search needs
 
--- src/rules.rt:49:29
 enum-told-2 : tie.Need-enum-told-2
 enum-told-2 c = search needs
 
--- src/rules.rt:43:1
 returns : tie.Need-returns
 unfolding soundPlan
 returns c = ap goes (sym (c .enum-told .given .1) ∙ c .before .before .plan-fault .ensures)
 
--- src/rules.rt:43:1
 returns-2 : tie.Need-returns-2
 unfolding soundPlan
 returns-2 c = ap goes (sym (c .enum-told2 .given .1) ∙ c .before .before .plan-fault .ensures)

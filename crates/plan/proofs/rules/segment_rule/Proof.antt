@@ -1,24 +1,18 @@
+-- `segment_rule`: The cases of `segmentRule`; no sum is formed before its parts are tested. Assumes nothing.
 use native.Mathlib.Omega.{arith}
 use Rattle.plan.proofs.RuleCases.{segment-empty, segment-overlaps, segment-far, segment-last}
-use borrow.Author.Needs.{needs}
 use Rattle.plan.proofs.rules.segment_rule.Statement.{statement}
 use Rattle.plan.proofs.rules.segment_rule.Tie as tie
-use Rattle.plan.proofs.rules.segment_rule.Reads as reads
-use Rattle.plan.proofs.rules.segment_rule.Lts as lts
 
--- src/rules.rt:105:9
 returns : tie.Need-returns
 returns c = let a = c .before .args in segment-empty (a .ended) (a .offset) _ (c .if1 .taken)
 
--- src/rules.rt:108:9
 returns-2 : tie.Need-returns-2
 returns-2 c = let a = c .before .before .args in segment-overlaps (a .ended) (a .offset) (a .size) (c .before .if1 .left) (c .if2 .taken)
 
--- src/rules.rt:111:9
 returns-3 : tie.Need-returns-3
 returns-3 c = let a = c .before .before .before .args in segment-far (a .ended) (a .offset) (a .size) (c .before .before .if1 .left) (c .before .if2 .left) (c .if3 .taken)
 
--- src/rules.rt:101:1
 returns-4 : tie.Need-returns-4
 returns-4 c = let a = c .before .before .before .args in segment-last (a .ended) (a .offset) (a .size) (c .before .before .if1 .left) (c .before .if2 .left) (c .if3 .left)
 

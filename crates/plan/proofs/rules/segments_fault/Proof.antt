@@ -1,3 +1,4 @@
+-- `segments_fault`: The invariant is `Ascending`: what the segments not yet seen say is the answer. Assumes nothing.
 use lib.ListN.{getD}
 use Rattle.plan.specs.Shapes.{noSegment}
 use Prim.Native.Nat.{_-_}
@@ -9,9 +10,6 @@ use Rattle.plan.proofs.Judging.{Ascending, ascend, ascend-broken, ascen
 use borrow.Author.Needs.{needs}
 use Rattle.plan.proofs.rules.segments_fault.Statement.{statement}
 use Rattle.plan.proofs.rules.segments_fault.Tie as tie
-use Rattle.plan.proofs.rules.segments_fault.Reads as reads
-use Rattle.plan.proofs.rules.segments_fault.Lts as lts
-use Rattle.plan.proofs.rules.segment_rule.Reads as segment-rule-reads
 
 abbrev Inv-loop : tie.InvT-loop
 Inv-loop template n ended₀ j₀ ended j = Ascending (template .segments) n ended j
@@ -19,43 +17,33 @@ Inv-loop template n ended₀ j₀ ended j = Ascending (template .segments) n end
 abbrev μ-loop : tie.MeasureT-loop
 μ-loop template n ended₀ j₀ ended j = n - j
 
--- src/rules.rt:89:5
 loop-holds : tie.Need-loop-holds Inv-loop μ-loop
 loop-holds c = ascend _ _
 
--- src/rules.rt:90:17
 mul-s : tie.Need-mul-s Inv-loop μ-loop
 mul-s c = omega arith
 
--- src/rules.rt:90:17
 element-copy-out-s : tie.Need-element-copy-out-s Inv-loop μ-loop
 element-copy-out-s c = omega arith
 
--- src/rules.rt:91:13
 segment-rule-requires : tie.Need-segment-rule-requires Inv-loop μ-loop
 segment-rule-requires c κs = search needs
 
--- src/rules.rt:92:13
 returns : tie.Need-returns Inv-loop μ-loop
 returns c = ascend-broken (c .before .before .before .before .loop .inv) (c .before .before .before .loop-test .taken) refl (called-false (c .before .segment-rule .ensures) (c .if1 .taken))
 
--- src/rules.rt:94:17
 add-ended : tie.Need-add-ended Inv-loop μ-loop
 add-ended c = let s = getD (c .before .before .before .before .before .before .args .t1 .segments) (c .before .before .before .before .before .loop .j) noSegment in omega (arith, segment-facts (c .before .before .before .before .before .loop .ended) (s .offset) (s .length) (called-true (c .before .before .segment-rule .ensures) (c .before .if1 .left)) .within)
 
--- src/rules.rt:95:9
 add-j : tie.Need-add-j Inv-loop μ-loop
 add-j c = omega arith
 
--- src/rules.rt:89:5
 loop-less : tie.Need-loop-less Inv-loop μ-loop
 loop-less c = omega arith
 
--- src/rules.rt:89:5
 loop-again : tie.Need-loop-again Inv-loop μ-loop
 loop-again c = ascend-next (c .before .before .before .before .before .loop .inv) (c .before .before .before .before .loop-test .taken) refl (called-true (c .before .before .segment-rule .ensures) (c .before .if1 .left))
 
--- src/rules.rt:82:1
 returns-2 : tie.Need-returns-2 Inv-loop μ-loop
 returns-2 c = ascend-end (c .before .loop .inv) (c .loop-test .left)
 

@@ -1,28 +1,22 @@
+-- `sum_rule`: The cases of `sumRule`. Assumes nothing.
 use native.Mathlib.Omega.{arith}
 use Rattle.plan.proofs.RuleCases.{start-low, field-low, field-high, field-even}
 use borrow.Author.Needs.{needs}
 use Rattle.plan.proofs.rules.sum_rule.Statement.{statement}
 use Rattle.plan.proofs.rules.sum_rule.Tie as tie
-use Rattle.plan.proofs.rules.sum_rule.Reads as reads
-use Rattle.plan.proofs.rules.sum_rule.Lts as lts
 
--- src/rules.rt:143:9
 returns : tie.Need-returns
 returns c = start-low _ _ (c .if1 .taken)
 
--- src/rules.rt:146:9
 returns-2 : tie.Need-returns-2
 returns-2 c = field-low _ _ (omega arith) (c .if2 .taken)
 
--- src/rules.rt:148:8
 sub-if3 : tie.Need-sub-if3
 sub-if3 c = search needs
 
--- src/rules.rt:149:9
 returns-3 : tie.Need-returns-3
 returns-3 c = let a = c .before .before .before .args in field-high (a .field) (a .start) (c .before .before .if1 .left) (c .before .if2 .left) (c .if3 .taken)
 
--- src/rules.rt:139:1
 returns-4 : tie.Need-returns-4
 returns-4 c = let a = c .before .before .before .args in field-even (a .field) (a .start) (c .before .before .if1 .left) (c .before .if2 .left) (c .if3 .left)
 
