@@ -3,13 +3,15 @@ use Prim.Native.Nat.{ℕ, _<_, _≤_}
 use mathlib.Core.Bool.{true}
 use mathlib.Core.Path.{_≡_, sym, ap, _∙_}
 use mathlib.Core.List.{List}
-use borrow.Author.Tests.{lt-ltb, le-ltb}
+use lib.Dec.{ltb}
+use borrow.Author.Tests.{lt-ltb, le-ltb, ltb-false}
 use Rattle.answer.specs.declared.Answer.the-variants.{Done, Refused}
 use Rattle.answer.specs.declared.Refusal.{Refusal}
 use Rattle.answer.specs.declared.Refusal.the-variants.{NoRoom}
 use Rattle.answer.specs.declared.Verdict.{Verdict}
 use Rattle.answer.specs.declared.Verdict.the-variants.{Go, Stop}
 use Rattle.answer.specs.Verdict.{Writes}
+use Rattle.answer.proofs.Tables.{go-test, go-rest}
 use Rattle.plan.specs.declared.Plan.{Plan}
 use Rattle.plan.specs.Rules.{planRoom, planFault, goes, soundPlan, writeVerdict}
 use Rattle.plan_write.specs.Places.{Put}
@@ -38,3 +40,9 @@ module _ (plan : Plan) where
     pub fault-says : planRoom ≤ n → {v u : Verdict} → v ≡ planFault plan → v ≡ u → writeVerdict plan n ≡ u
     unfolding writeVerdict
     fault-says h e g = rw (le-ltb n planRoom h) (sym e ∙ g)
+
+    -- what a caller learns of a plan that is written
+    pub write-go : writeVerdict plan n ≡ Go → (planRoom ≤ n) × (soundPlan plan ≡ true)
+    unfolding writeVerdict
+    write-go e =
+        (ltb-false n planRoom (go-test (ltb n planRoom) NoRoom (planFault plan) e), fault-sound (go-rest (ltb n planRoom) NoRoom (planFault plan) e))

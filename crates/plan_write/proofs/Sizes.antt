@@ -1,7 +1,6 @@
--- The most bytes of a template of a sound plan are 8 + 1 + 8 * 4 + 128 + 1 + 4 = 174, so a file fits into the least output. Assumes nothing.
-use Prim.Native.Nat.{ℕ, zero, suc, _+_, _-_, _*_, _^_, _<_, _≤_}
-use mathlib.Core.Bool.{Bool, true, false}
-use mathlib.Core.Path.{_≡_, refl, sym, ap, _∙_}
+-- A template of a sound plan takes at most 8 + 1 + 8 * 4 + 128 + 1 + 4 = 174 bytes, and a file at most 6 + 8 * 174 = 1,398. Assumes nothing.
+use Prim.Native.Nat.{ℕ, zero, suc, _+_, _-_, _*_, _^_, _≤_}
+use mathlib.Core.Path.{ap}
 use mathlib.Core.List.{List, [], _∷_, _++_}
 use mathlib.Core.Logic.{⊎-elim}
 use native.Mathlib.Omega.{arith}
@@ -12,7 +11,7 @@ use Rattle.varint.proofs.Encoding.{length-encode, size-one, size-two, size-boun
 use Rattle.plan.specs.declared.Template.{Template}
 use Rattle.plan.specs.declared.Plan.{Plan}
 use Rattle.plan.specs.Shapes.{Piece, pieceEnd, shapeOf, templateAt, shapesOf}
-use Rattle.plan.specs.Rules.{staticLimit, planRoom}
+use Rattle.plan.specs.Rules.{staticLimit}
 use Rattle.plan.specs.File.{pieceBytes, piecesBytes, sumBytes, shapeBytes, shapesBytes, planBytes}
 use Rattle.template.specs.Pieces.{staticSize}
 use Rattle.template.specs.Sound.{Ascends}
@@ -52,7 +51,7 @@ module _ (t : Template) (u : UsableTemplate t) where
       (λ e. omega (arith, ap length (sum-none t e)))
       (true-or-false (t .checksum))
 
-  template-most : length (shapeBytes (shapeOf t)) ≤ 174
+  pub template-most : length (shapeBytes (shapeOf t)) ≤ 174
   template-most =
       omega (
         arith,
@@ -78,7 +77,7 @@ module _ (plan : Plan) (u : Usable plan) where
         shapes-most n (suc i) (omega arith),
       )
 
-  pub plan-most : length (planBytes (shapesOf plan)) ≤ planRoom
+  pub plan-most : length (planBytes (shapesOf plan)) ≤ 1398
   plan-most =
       omega (
         arith,

@@ -17,7 +17,15 @@ same-length : tie.Need-same-length
 same-length c = search needs
 
 returns : tie.Need-returns
-returns c = Parts.put-head (c .before .before .before .before .before .before .before .before .before .before .put-bytes .ensures) (c .before .before .before .before .before .before .put-byte .ensures) (c .before .before .put-byte2 .ensures)
+returns c =
+    Parts.put-head (c .before .before .before .before .before .before .before .before .before .before .put-bytes .ensures) (c .before .before .before .before .before .before .put-byte .ensures) (c .before .before .put-byte2 .ensures)
 
 pub put-head-spec : {M : Type 1} → statement M
-put-head-spec = tie.close (tie.spec put-bytes-requires put-byte-requires put-byte-requires-2 same-length returns)
+put-head-spec =
+    tie.close
+    (tie.spec
+    put-bytes-requires
+    put-byte-requires
+    put-byte-requires-2
+    same-length
+    returns)

@@ -7,7 +7,7 @@ use Rattle.plan_write.proofs.write_plan.Statement.{statement}
 use Rattle.plan_write.proofs.write_plan.Tie as tie
 
 returns : tie.Need-returns
-returns c = refused (no-room _ _ (c .if1 .taken))
+returns c = refused (no-room _ _ (omega arith))
 
 plan-fault-requires : tie.Need-plan-fault-requires
 plan-fault-requires c κs = search needs
@@ -16,7 +16,8 @@ enum-told : tie.Need-enum-told
 enum-told c = search needs
 
 put-plan-requires : tie.Need-put-plan-requires
-put-plan-requires c κs = (fault-sound (c .before .before .before .before .before .before .args .plan) (sym (c .before .before .before .plan-fault .ensures) ∙ c .before .enum-told .given .1), c .before .before .before .before .if1 .left)
+put-plan-requires c κs =
+    (fault-sound (c .before .before .before .before .before .before .args .plan) (sym (c .before .before .before .plan-fault .ensures) ∙ c .before .enum-told .given .1), omega arith)
 
 enum-known-fault : tie.Need-enum-known-fault
 enum-known-fault c = search needs
@@ -25,10 +26,21 @@ same-length : tie.Need-same-length
 same-length c = search needs
 
 returns-2 : tie.Need-returns-2
-returns-2 c = wrote (fault-says _ _ (c .before .before .before .before .before .before .before .if1 .left) (c .before .before .before .before .before .before .plan-fault .ensures) (c .before .before .before .before .enum-told .given .1)) (c .before .before .put-plan .ensures)
+returns-2 c =
+    wrote (fault-says _ _ (omega arith) (c .before .before .before .before .before .before .plan-fault .ensures) (c .before .before .before .before .enum-told .given .1)) (c .before .before .put-plan .ensures)
 
 returns-3 : tie.Need-returns-3
-returns-3 c = refused (fault-says _ _ (c .before .before .before .before .if1 .left) (c .before .before .before .plan-fault .ensures) (c .before .fault .given .1))
+returns-3 c = refused (fault-says _ _ (omega arith) (c .before .before .before .plan-fault .ensures) (c .before .fault .given .1))
 
 pub write-plan-spec : {M : Type 1} → statement M
-write-plan-spec = tie.close (tie.spec returns plan-fault-requires enum-told put-plan-requires enum-known-fault same-length returns-2 returns-3)
+write-plan-spec =
+    tie.close
+    (tie.spec
+    returns
+    plan-fault-requires
+    enum-told
+    put-plan-requires
+    enum-known-fault
+    same-length
+    returns-2
+    returns-3)

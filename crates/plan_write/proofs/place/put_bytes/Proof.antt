@@ -1,5 +1,4 @@
 -- The part from the place on comes back with the bytes at its front, by `put-copied`.
-use native.Mathlib.Omega.{arith}
 use Rattle.plan_write.proofs.Placing.{put-copied}
 use borrow.Author.Needs.{needs}
 use Rattle.plan_write.proofs.place.put_bytes.Statement.{statement}

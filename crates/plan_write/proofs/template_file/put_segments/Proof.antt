@@ -37,22 +37,44 @@ slice-aggregate-put-segment : tie.Need-slice-aggregate-put-segment Inv-loop μ-l
 slice-aggregate-put-segment c = sym (image-long (c .before .before .before .before .before .before .before))
 
 put-segment-requires : tie.Need-put-segment-requires Inv-loop μ-loop
-put-segment-requires c κs = let a : InLoop = c .before .before .before in let s = a .before .before .before .before in let l = image-long s in ((omega (arith, s .pre .0 .within (a .before .loop .j) (a .loop-test .taken), l), omega (arith, l)), piece-room (s .args .t3) (a .before .loop .j) (s .args .t3 .count) (a .loop-test .taken) (a .before .loop .inv .1) (s .pre .1))
+put-segment-requires c κs =
+    let a : InLoop = c .before .before .before in
+    let s = a .before .before .before .before in
+    let l = image-long s in
+    ((omega (arith, s .pre .0 .within (a .before .loop .j) (a .loop-test .taken), l), omega (arith, l)), piece-room (s .args .t3) (a .before .loop .j) (s .args .t3 .count) (a .loop-test .taken) (a .before .loop .inv .1) (s .pre .1))
 
 add-j : tie.Need-add-j Inv-loop μ-loop
-add-j c = omega (arith, c .before .before .before .before .before .before .before .before .before .before .pre .0 .few, c .before .before .before .before .before .before .loop-test .taken)
+add-j c =
+    omega (arith, c .before .before .before .before .before .before .before .before .before .before .pre .0 .few, c .before .before .before .before .before .before .loop-test .taken)
 
 loop-less : tie.Need-loop-less Inv-loop μ-loop
 loop-less c = omega (arith, c .before .before .before .before .before .before .loop-test .taken)
 
 loop-again : tie.Need-loop-again Inv-loop μ-loop
-loop-again c = let a : InLoop = c .before .before .before .before .before .before in (omega (arith, a .loop-test .taken), putting-more (a .before .loop .inv .1) (pieces-more (a .before .before .before .before .args .t3) (a .before .loop .j) _ (a .loop-test .taken)) (c .before .before .put-segment .ensures))
+loop-again c =
+    let a : InLoop = c .before .before .before .before .before .before in
+    (omega (arith, a .loop-test .taken), putting-more (a .before .loop .inv .1) (pieces-more (a .before .before .before .before .args .t3) (a .before .loop .j) _ (a .loop-test .taken)) (c .before .before .put-segment .ensures))
 
 same-length : tie.Need-same-length Inv-loop μ-loop
 same-length c = c .before .loop .inv .1 .put .kept
 
 returns : tie.Need-returns Inv-loop μ-loop
-returns c = putting-done (c .before .loop .inv .1) (pieces-none (c .before .before .before .before .args .t3) (c .before .loop .j) _ (c .loop-test .left))
+returns c =
+    putting-done (c .before .loop .inv .1) (pieces-none (c .before .before .before .before .args .t3) (c .before .loop .j) _ (c .loop-test .left))
 
 pub put-segments-spec : {M : Type 1} → statement M
-put-segments-spec = tie.close (tie.spec Inv-loop μ-loop loop-holds mul-s element-copy-out-s slice-aggregate-put-segment put-segment-requires add-j loop-less loop-again same-length returns)
+put-segments-spec =
+    tie.close
+    (tie.spec
+    Inv-loop
+    μ-loop
+    loop-holds
+    mul-s
+    element-copy-out-s
+    slice-aggregate-put-segment
+    put-segment-requires
+    add-j
+    loop-less
+    loop-again
+    same-length
+    returns)
