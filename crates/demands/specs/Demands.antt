@@ -41,9 +41,11 @@ use Rattle.plan.specs.declared.Plan.{Plan}
 use Rattle.plan.specs.Shapes.{Shape, shapesOf}
 use Rattle.plan.specs.Rules.{soundPlan}
 use Rattle.plan.specs.File.{found, planIn, planBytes}
-use Rattle.plan_write.proofs.PlanRead as PlanRead
-use Rattle.plan_write.proofs.PlanRoundTrip.{same-file}
-use Rattle.plan_write.proofs.PlanRoundTrip as PlanRoundTrip
+use Rattle.plan.specs.Results.{planOf}
+use Rattle.plan.proofs.Encoded.{same-file}
+use Rattle.plan.proofs.Encoded as Encoded
+use Rattle.plan.proofs.Written.{written-read}
+use Rattle.plan.proofs.PlanOf.{read-sound, read-means}
 use Rattle.template.specs.Members.{In}
 use Rattle.template.specs.Fits.{fits, Choice, full, short, firstFit}
 use Rattle.template.specs.Datagrams.{maxPacket, shortForm, fullForm, packet, opened}
@@ -233,11 +235,16 @@ twins = record { first = refl; second = refl; differ = λ e. omega (arith, ap (�
 
 -- reading the file of a sound plan gives what the plan means
 pub file-is-read : (plan : Plan) → soundPlan plan ≡ true → planIn (planBytes (shapesOf plan)) ≡ found (shapesOf plan) []
-file-is-read = PlanRoundTrip.read-written
+file-is-read = Encoded.read-written
 
 -- the file of what was read is the file
 pub read-is-file : (s : List ℕ) (ts : List Shape) (rest : List ℕ) → Bytes s → planIn s ≡ found ts rest → planBytes ts ≡ s
-read-is-file = PlanRead.written-read
+read-is-file s ts rest h e = written-read s h e
+
+-- the plan that reading makes keeps the rules, and means what was read
+pub read-plan-sound : (s : List ℕ) (ts : List Shape) (rest : List ℕ) → Bytes s → planIn s ≡ found ts rest
+    → (soundPlan (planOf ts) ≡ true) × (shapesOf (planOf ts) ≡ ts)
+read-plan-sound s ts rest h e = (read-sound s h e, read-means s h e)
 
 -- two sound plans with the same file mean the same; what a plan means fixes its file, since the file is a function of it
 pub one-file : (p q : Plan) → soundPlan p ≡ true → soundPlan q ≡ true → planBytes (shapesOf p) ≡ planBytes (shapesOf q) → shapesOf p ≡ shapesOf q

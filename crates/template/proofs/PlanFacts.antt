@@ -158,7 +158,7 @@ went Go e = refl
 went (Stop r) e = let z : _≡_ {A = ℕ} 0 1 = cc in absurd (omega arith)
 
 module _ (plan : Plan) (sound : soundPlan plan ≡ true) where
-  pub no-fault : planFault plan ≡ Go
+  no-fault : planFault plan ≡ Go
   unfolding soundPlan
   no-fault = went (planFault plan) sound
 
