@@ -1,1 +1,2 @@
 pub mod Tunnel
+pub mod Opening

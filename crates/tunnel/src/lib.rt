@@ -5,6 +5,9 @@
 mod sending; // sending.rt: from a packet to a datagram
 mod receiving; // receiving.rt: from a datagram to a packet
 
+pub use receiving::receive;
+pub use receiving::receive_over;
+
 // The least outputs that are sent to and received into.
 pub const SEND_ROOM: usize = 1508;
 

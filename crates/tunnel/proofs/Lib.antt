@@ -1,0 +1,3 @@
+pub mod ReceivingLaws
+pub mod ReceivingOpening
+pub mod ReceivingSteps
