@@ -5,7 +5,7 @@ use mathlib.Core.List.{List, [], _∷_, _++_}
 use lib.ListN.{replicate}
 use Rattle.answer.specs.declared.Refusal.the-variants.{BadAddress, RangesOutOfOrder, BadRequestId}
 use Rattle.varint.specs.declared.NumberRead.the-variants.{Whole}
-use Rattle.varint.specs.Numbers.{readNumber, encode}
+use Rattle.varint.specs.Numbers.{readNumber, encode, encodedSize}
 use Rattle.lists.specs.declared.AddressEntry.{AddressEntry}
 use Rattle.lists.specs.declared.RouteRange.{RouteRange}
 use Rattle.lists.specs.Rules.{soundEntry, soundRange, inOrder}
@@ -24,7 +24,7 @@ use Rattle.capsule.specs.Results.{readAt}
 use Rattle.plan.specs.declared.Plan.{Plan}
 use Rattle.plan.specs.Shapes.{shapeOf, shapesOf}
 use Rattle.plan.specs.Rules.{templateFault, planFault, soundPlan}
-use Rattle.plan.specs.File.{numberIn, bytesIn, pieceIn, piecesIn, sumIn, shapeIn, shapesIn, planIn}
+use Rattle.plan.specs.File.{numberIn, twoIn, bytesIn, pieceIn, piecesIn, sumIn, bodyIn, shapeIn, shapesIn, planIn}
 use Rattle.plan.specs.Results.{templateOf, planOf, readPlan}
 use Rattle.template.specs.Pieces.{fitsPieces, strip}
 use Rattle.template.specs.Fits.{fits, firstFit}
@@ -53,7 +53,7 @@ abbrev rangeOf : ℕ → ℕ → ℕ → List ℕ
 rangeOf a b protocol = 4 ∷ 0xc6 ∷ 0x33 ∷ 0x64 ∷ a ∷ 0xc6 ∷ 0x33 ∷ 0x64 ∷ b ∷ protocol ∷ []
 
 -- the grants of the examples: 192.0.2.3 may send UDP to 198.51.100.2
-unfoldable grants : Grants
+unfoldable pub grants : Grants
 grants = withReceivedRoutes (withReceivedAddresses noGrants (addressList (host 3 32 ∷ []))) (routeList (hosts 2 2 17 ∷ []))
 
 -- the drivers' packet with a hop count, a header checksum and a UDP checksum
@@ -102,7 +102,7 @@ pub record DriversExamples : Type 0 where
   pub packet-without : sentUnder (readPlan file .plan) (udp 0x40 0x8e 0x98 0x00 0x00) ≡ 0x00 ∷ udp 0x3f 0x8f 0x98 0x00 0x00
 
 pub examples-hold : DriversExamples
-unfolding readNumber encode soundEntry soundRange inOrder packEntries packRanges entryAt rangeAt entriesOf rangesOf soundAddresses soundRoutes parse elementsIn readEntry readBody readRange entryFollows rangeFollows readCapsule readValue frameOf words fold form form4 form6 sourceOf destinationOf protocolOf protocolByte isIcmp hopPlace hopsOf put16 headerCheck lowered4 lowered addressWords seed fieldIs sent finish completion flowOf covers reaches passes allSound soundGrants sendingGranted readGrants readAt shapeOf shapesOf templateFault planFault soundPlan numberIn bytesIn pieceIn piecesIn sumIn shapeIn shapesIn planIn templateOf planOf readPlan fitsPieces strip fits firstFit shortForm fullForm datagram sendTests sendVerdict sentBytes sendAnswer sendOutput grants
+unfolding readNumber encode encodedSize soundEntry soundRange inOrder packEntries packRanges entryAt rangeAt entriesOf rangesOf soundAddresses soundRoutes parse elementsIn readEntry readBody readRange entryFollows rangeFollows readCapsule readValue frameOf words fold form form4 form6 sourceOf destinationOf protocolOf protocolByte isIcmp hopPlace hopsOf put16 headerCheck lowered4 lowered addressWords seed fieldIs sent finish completion flowOf covers reaches passes allSound soundGrants sendingGranted readGrants readAt shapeOf shapesOf templateFault planFault soundPlan numberIn twoIn bytesIn pieceIn piecesIn sumIn bodyIn shapeIn shapesIn planIn templateOf planOf readPlan fitsPieces strip fits firstFit shortForm fullForm datagram sendTests sendVerdict sentBytes sendAnswer sendOutput grants
 examples-hold =
     record {
       number-one = refl;
