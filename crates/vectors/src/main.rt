@@ -1,6 +1,7 @@
 // Runs the numbers of RFC 9000, appendix A.1, and the drivers' examples through the box, and writes what came out, to be compared with the
 // file `stdout`.
 mod packet; // packet.rt: sending and receiving
+mod plan_file; // plan_file.rt: plan files
 
 use answer::Answer;
 use capsule::Outcome;
@@ -11,6 +12,7 @@ fn main() {
     numbers();
     capsules();
     packet::packets();
+    plan_file::plans();
 }
 
 // Each number is read, and its value written again: a longer form is accepted, and not made.
