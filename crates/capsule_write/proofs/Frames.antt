@@ -25,9 +25,9 @@ use Rattle.lists.proofs.ListScans.{entries-within, ranges-within}
 use Rattle.capsule.specs.Elements.{written}
 use Rattle.capsule.specs.Entries.{entryFormat, rangeFormat}
 use Rattle.capsule.specs.Capsules.{maxValue, frameBytes, capsuleBytes, datagram, assign, request, advertise}
-use Rattle.capsule_write.specs.Places.{Put}
+use Rattle.output.specs.Places.{Put}
 use Rattle.capsule_write.specs.Verdicts.{capsuleRoom, datagramVerdict, entriesVerdict, rangesVerdict, addressVerdict, routeVerdict}
-use Rattle.capsule_write.proofs.Placing.{put-then, put-as, put-front}
+use Rattle.output.proofs.Placing.{put-then, put-as, put-front}
 
 -- ---- the frame
 

@@ -20,7 +20,7 @@ use Rattle.lists.specs.Words.{maxAddresses, maxRanges, countOf, entryAt, rangeA
 use Rattle.octets.proofs.Scans.{from-more, from-end}
 use Rattle.capsule.specs.Elements.{Format, judged, countVerdict}
 use Rattle.capsule.specs.Entries.{entryFormat, rangeFormat, entryFollows, rangeFollows, newest}
-use Rattle.capsule_write.specs.Places.{earlier}
+use Rattle.capsule_write.specs.Earlier.{earlier}
 use Rattle.capsule_write.specs.Verdicts.{entriesVerdict, rangesVerdict}
 
 -- ---- any kind of element

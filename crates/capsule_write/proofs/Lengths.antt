@@ -16,8 +16,8 @@ use Rattle.lists.specs.declared.AddressEntry.{AddressEntry}
 use Rattle.lists.specs.declared.RouteRange.{RouteRange}
 use Rattle.lists.specs.Rules.{idOf}
 use Rattle.capsule.specs.Entries.{addressBytes, entryBytes, endsBytes, rangeBytes}
-use Rattle.capsule_write.specs.Places.{Put}
-use Rattle.capsule_write.proofs.Placing.{put-then}
+use Rattle.output.specs.Places.{Put}
+use Rattle.output.proofs.Placing.{put-then}
 use Rattle.capsule_write.specs.Sizes.{maxEntry, maxRange}
 
 -- a version is 4, or not

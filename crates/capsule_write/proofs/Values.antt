@@ -16,8 +16,8 @@ use Rattle.octets.proofs.Scans.{from-more, from-end}
 use Rattle.lists.proofs.EntryRule.{entry-facts}
 use Rattle.lists.proofs.ListScans.{entries-within, addresses-facts}
 use Rattle.capsule.specs.Elements.{Format, written}
-use Rattle.capsule_write.specs.Places.{Put}
-use Rattle.capsule_write.proofs.Placing.{put-none, put-then}
+use Rattle.output.specs.Places.{Put}
+use Rattle.output.proofs.Placing.{put-none, put-then}
 
 -- the elements at the indices below n, of at most `most` bytes each
 module _ {A : Type 0} (f : Format A) (at : ℕ → A) (n most : ℕ) where

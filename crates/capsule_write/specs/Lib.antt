@@ -1,4 +1,4 @@
-pub mod Places
+pub mod Earlier
 pub mod Sizes
 pub mod Verdicts
 pub mod Examples

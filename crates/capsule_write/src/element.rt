@@ -8,7 +8,7 @@ ghost use lib.ListN.{length};
 ghost use Rattle.varint.specs.Numbers.{limit};
 ghost use Rattle.lists.specs.Rules.{idOf};
 ghost use Rattle.capsule.specs.Entries.{addressBytes, entryBytes, endsBytes, rangeBytes};
-ghost use Rattle.capsule_write.specs.Places.{Put};
+ghost use Rattle.output.specs.Places.{Put};
 ghost use Rattle.capsule_write.specs.Sizes.{maxEntry, maxRange};
 
 // Request ID, version, address, prefix length.
@@ -18,9 +18,9 @@ pub(crate) fn put_entry_bytes(out: &mut [u8], at: usize, e: AddressEntry) -> usi
 {
     let id = e.request_id;
     let version = place::put_number(out, at, id.0);
-    let address = place::put_byte(out, version, e.version);
+    let address = output::put_byte(out, version, e.version);
     let prefix = put_address(out, address, e);
-    place::put_byte(out, prefix, e.prefix)
+    output::put_byte(out, prefix, e.prefix)
 }
 
 fn put_address(out: &mut [u8], at: usize, e: AddressEntry) -> usize
@@ -50,9 +50,9 @@ pub(crate) fn put_range_bytes(out: &mut [u8], at: usize, r: RouteRange) -> usize
     requires { ⌜ at + maxRange ≤ length (now out) ⌝ }
     ensures { λ p. ⌜ Put (rangeBytes r) at (now (out .entry)) p (now (out .exit)) ⌝ }
 {
-    let ends = place::put_byte(out, at, r.version);
+    let ends = output::put_byte(out, at, r.version);
     let protocol = put_ends(out, ends, r);
-    place::put_byte(out, protocol, r.protocol)
+    output::put_byte(out, protocol, r.protocol)
 }
 
 fn put_ends(out: &mut [u8], at: usize, r: RouteRange) -> usize

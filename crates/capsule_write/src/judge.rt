@@ -15,7 +15,7 @@ ghost use Rattle.lists.specs.Rules.{idOf};
 ghost use Rattle.lists.specs.Words.{maxAddresses, maxRanges, entryAt, rangeAt};
 ghost use Rattle.capsule.specs.Elements.{judged, countVerdict};
 ghost use Rattle.capsule.specs.Entries.{entryFormat, rangeFormat};
-ghost use Rattle.capsule_write.specs.Places.{earlier};
+ghost use Rattle.capsule_write.specs.Earlier.{earlier};
 ghost use Rattle.capsule_write.specs.Verdicts.{entriesVerdict, rangesVerdict};
 
 // Of the entries of a request, or else of an assignment.

@@ -25,7 +25,7 @@ ghost use Rattle.lists.specs.Words.{entriesOf, rangesOf, soundAddresses, countO
 ghost use Rattle.capsule.specs.Elements.{written};
 ghost use Rattle.capsule.specs.Entries.{entryFormat, rangeFormat};
 ghost use Rattle.capsule.specs.Capsules.{capsuleBytes, datagram, assign, request, advertise, frameBytes};
-ghost use Rattle.capsule_write.specs.Places.{Put};
+ghost use Rattle.output.specs.Places.{Put};
 ghost use Rattle.capsule_write.specs.Verdicts.{capsuleRoom, datagramVerdict, addressVerdict, routeVerdict};
 
 // The least output that a capsule is written to.
@@ -42,7 +42,7 @@ pub fn write_datagram(value: &[u8], out: &mut [u8]) -> Answer
         return Answer::Refused(Refusal::TooLong);
     }
     let start = put_header(out, 0, value.len());
-    let end = place::put_bytes(out, start, value);
+    let end = output::put_bytes(out, start, value);
     Answer::Done(end)
 }
 

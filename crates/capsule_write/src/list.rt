@@ -11,7 +11,7 @@ ghost use Rattle.lists.specs.Rules.{soundEntry};
 ghost use Rattle.lists.specs.Words.{maxAddresses, maxRanges, entryAt, rangeAt};
 ghost use Rattle.capsule.specs.Elements.{written};
 ghost use Rattle.capsule.specs.Entries.{entryFormat, rangeFormat};
-ghost use Rattle.capsule_write.specs.Places.{Put};
+ghost use Rattle.output.specs.Places.{Put};
 ghost use Rattle.capsule_write.specs.Sizes.{maxEntry, maxRange};
 
 // How many bytes the first n entries take.

@@ -14,8 +14,8 @@ use Rattle.answer.specs.Verdict.{Writes}
 use Rattle.answer.proofs.Tables.{go-test, go-rest}
 use Rattle.plan.specs.declared.Plan.{Plan}
 use Rattle.plan.specs.Rules.{planRoom, planFault, goes, soundPlan, writeVerdict}
-use Rattle.plan_write.specs.Places.{Put}
-use Rattle.plan_write.proofs.Placing.{put-front}
+use Rattle.output.specs.Places.{Put}
+use Rattle.output.proofs.Placing.{put-front}
 
 module _ {m : List ℕ} {v : Verdict} where
   pub wrote : {a b : List ℕ} {r : ℕ} → v ≡ Go → Put m 0 a r b → Writes v m a (Done r) b

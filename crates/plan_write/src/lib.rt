@@ -18,7 +18,7 @@ ghost use Rattle.plan.specs.Shapes.{shapesOf};
 ghost use Rattle.plan.specs.Rules.{planRoom, soundPlan, writeVerdict};
 ghost use Rattle.plan.specs.File.{mark, version, shapesBytes, planBytes};
 ghost use Rattle.template.specs.Usable.{Usable};
-ghost use Rattle.plan_write.specs.Places.{Put};
+ghost use Rattle.output.specs.Places.{Put};
 
 // Writes the file of a plan to the front of out.
 pub fn write_plan(plan: Plan, out: &mut [u8]) -> Answer
@@ -50,9 +50,9 @@ fn put_head(out: &mut [u8]) -> usize
     ensures { λ r. ⌜ Put (mark ++ version) 0 (now (out .entry)) r (now (out .exit)) ⌝ }
 {
     let mark = b"VAN";
-    let version = place::put_bytes(out, 0, mark);
-    let low = place::put_byte(out, version, 0);
-    place::put_byte(out, low, 1)
+    let version = output::put_bytes(out, 0, mark);
+    let low = output::put_byte(out, version, 0);
+    output::put_byte(out, low, 1)
 }
 
 fn put_templates(out: &mut [u8], at: usize, plan: Plan) -> usize

@@ -8,7 +8,7 @@ ghost use Rattle.plan.specs.Rules.{staticLimit};
 ghost use Rattle.plan.specs.Shapes.{pieceOf, shapeOf};
 ghost use Rattle.plan.specs.File.{pieceBytes, piecesBytes, sumBytes, shapeBytes};
 ghost use Rattle.template.specs.Usable.{UsableTemplate, piecesOf};
-ghost use Rattle.plan_write.specs.Places.{Put};
+ghost use Rattle.output.specs.Places.{Put};
 
 pub(crate) fn put_template(out: &mut [u8], at: usize, template: Template) -> usize
     requires { ⌜ UsableTemplate template ⌝ }
@@ -49,7 +49,7 @@ fn put_segment(out: &mut [u8], at: usize, segment: Segment, image: &[u8]) -> usi
     let size = segment.length;
     let length = place::put_number(out, at, offset as u64);
     let bytes = place::put_number(out, length, size as u64);
-    place::put_bytes(out, bytes, &image[offset..offset + size])
+    output::put_bytes(out, bytes, &image[offset..offset + size])
 }
 
 // Flag 0; or flag 1, the field's offset and the offset where the sum starts.
@@ -59,9 +59,9 @@ fn put_checksum(out: &mut [u8], at: usize, template: Template) -> usize
     ensures { λ r. ⌜ Put (sumBytes (shapeOf template .sum)) at (now (out .entry)) r (now (out .exit)) ⌝ }
 {
     if template.checksum {
-        let field = place::put_byte(out, at, 1);
+        let field = output::put_byte(out, at, 1);
         let start = place::put_number(out, field, template.field as u64);
         return place::put_number(out, start, template.start as u64);
     }
-    place::put_byte(out, at, 0)
+    output::put_byte(out, at, 0)
 }

@@ -1,7 +1,7 @@
 -- Header and entries one after the other, by `put-frame`; a sound list leaves room for both.
 use native.Mathlib.Omega.{arith}
 use Rattle.lists.proofs.ListScans.{addresses-facts}
-use Rattle.capsule_write.proofs.Placing.{put-as}
+use Rattle.output.proofs.Placing.{put-as}
 use Rattle.capsule_write.proofs.Frames as Frames
 use Rattle.capsule_write.proofs.Values.{sound-stored}
 use borrow.Author.Needs.{needs}

@@ -1,6 +1,7 @@
 -- Two numbers one after the other, with room for a number of any form at each.
 use native.Mathlib.Omega.{arith}
-use Rattle.capsule_write.proofs.Placing.{put-then, encode-most}
+use Rattle.output.proofs.Placing.{put-then}
+use Rattle.capsule_write.proofs.Placing.{encode-most}
 use borrow.Author.Needs.{needs}
 use Rattle.capsule_write.proofs.put_header.Statement.{statement}
 use Rattle.capsule_write.proofs.put_header.Tie as tie

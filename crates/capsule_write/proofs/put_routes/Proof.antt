@@ -1,6 +1,6 @@
 -- Header and ranges one after the other, by `put-frame`; a list within its limit leaves room for both.
 use native.Mathlib.Omega.{arith}
-use Rattle.capsule_write.proofs.Placing.{put-as}
+use Rattle.output.proofs.Placing.{put-as}
 use Rattle.capsule_write.proofs.Frames as Frames
 use borrow.Author.Needs.{needs}
 use Rattle.capsule_write.proofs.put_routes.Statement.{statement}

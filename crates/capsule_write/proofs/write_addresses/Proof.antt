@@ -3,7 +3,7 @@ use mathlib.Core.Path.{sym, ap, _∙_}
 use mathlib.Core.Bool.{false}
 use Rattle.lists.specs.Words.{entriesOf}
 use Rattle.capsule.specs.Capsules.{frameBytes}
-use Rattle.capsule_write.proofs.Placing.{put-as}
+use Rattle.output.proofs.Placing.{put-as}
 use Rattle.capsule_write.proofs.Frames as Frames
 use Rattle.capsule_write.proofs.Accepted.{entries-go}
 use native.Mathlib.Omega.{arith}

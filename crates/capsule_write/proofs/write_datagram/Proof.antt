@@ -2,7 +2,7 @@
 use native.Mathlib.Omega.{arith}
 use mathlib.Core.Path.{refl}
 use lib.ListN.{length}
-use Rattle.capsule_write.proofs.Placing.{put-as}
+use Rattle.output.proofs.Placing.{put-as}
 use Rattle.capsule_write.proofs.Frames as Frames
 use borrow.Author.Needs.{needs}
 use Rattle.capsule_write.proofs.write_datagram.Statement.{statement}

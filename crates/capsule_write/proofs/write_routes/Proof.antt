@@ -1,6 +1,6 @@
 -- Each return is a case of the verdict; a `Go` says that the count is within its limit.
 use mathlib.Core.Path.{sym, _∙_}
-use Rattle.capsule_write.proofs.Placing.{put-as}
+use Rattle.output.proofs.Placing.{put-as}
 use Rattle.capsule_write.proofs.Frames as Frames
 use Rattle.capsule_write.proofs.Accepted.{ranges-go}
 use native.Mathlib.Omega.{arith}

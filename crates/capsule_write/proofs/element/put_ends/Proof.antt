@@ -1,6 +1,6 @@
 -- The digits of two words or of four, by the version.
 use mathlib.Core.Path.{sym}
-use Rattle.capsule_write.proofs.Placing.{put-as, put-then}
+use Rattle.output.proofs.Placing.{put-as, put-then}
 use Rattle.capsule_write.proofs.Lengths.{ends4, ends6}
 use borrow.Author.Needs.{needs}
 use Rattle.capsule_write.proofs.element.put_ends.Statement.{statement}

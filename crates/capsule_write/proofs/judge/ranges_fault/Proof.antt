@@ -5,7 +5,7 @@ use Rattle.lists.specs.Words.{rangeAt}
 use Rattle.lists.proofs.Calls.{called-true, called-false}
 use Rattle.capsule.specs.Entries.{rangeFormat, newest}
 use Rattle.capsule_write.proofs.Judging as Judging
-use Rattle.capsule_write.specs.Places.{earlier}
+use Rattle.capsule_write.specs.Earlier.{earlier}
 use borrow.Author.Needs.{needs}
 use Rattle.capsule_write.proofs.judge.ranges_fault.Statement.{statement}
 use Rattle.capsule_write.proofs.judge.ranges_fault.Tie as tie

@@ -1,7 +1,7 @@
 -- The part from the place on comes back with the digits at its front, by `put-back`.
 use mathlib.Core.Path.{sym}
 use Rattle.octets.proofs.BigLaws.{length-digits}
-use Rattle.capsule_write.proofs.Placing.{put-back}
+use Rattle.output.proofs.Placing.{put-back}
 use borrow.Author.Needs.{needs}
 use Rattle.capsule_write.proofs.place.put_digits.Statement.{statement}
 use Rattle.capsule_write.proofs.place.put_digits.Tie as tie

@@ -2,7 +2,8 @@
 use native.Mathlib.Omega.{arith}
 use mathlib.Core.Path.{refl}
 use lib.ListN.{length-take}
-use Rattle.plan_write.proofs.Placing.{put-as, encode-most, number-size, number-form, number-front, number-room}
+use Rattle.output.proofs.Placing.{put-as}
+use Rattle.plan_write.proofs.Placing.{encode-most, number-size, number-form, number-front, number-room}
 use borrow.Author.Needs.{needs}
 use Rattle.plan_write.proofs.place.put_number.Statement.{statement}
 use Rattle.plan_write.proofs.place.put_number.Tie as tie

@@ -3,7 +3,7 @@ use native.Mathlib.Omega.{arith}
 use mathlib.Core.Path.{ap}
 use lib.ListN.{length}
 use Rattle.template.proofs.Steps.{sum-place}
-use Rattle.plan_write.proofs.Placing.{put-then, put-as}
+use Rattle.output.proofs.Placing.{put-then, put-as}
 use Rattle.plan_write.proofs.Parts.{sum-none, sum-some, length-sum}
 use borrow.Author.Needs.{needs}
 use Rattle.plan_write.proofs.template_file.put_checksum.Statement.{statement}

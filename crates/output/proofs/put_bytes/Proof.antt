@@ -1,8 +1,8 @@
 -- The part from the place on comes back with the bytes at its front, by `put-copied`.
-use Rattle.plan_write.proofs.Placing.{put-copied}
+use Rattle.output.proofs.Placing.{put-copied}
 use borrow.Author.Needs.{needs}
-use Rattle.plan_write.proofs.place.put_bytes.Statement.{statement}
-use Rattle.plan_write.proofs.place.put_bytes.Tie as tie
+use Rattle.output.proofs.put_bytes.Statement.{statement}
+use Rattle.output.proofs.put_bytes.Tie as tie
 
 sub-copy : tie.Need-sub-copy
 sub-copy c = search needs

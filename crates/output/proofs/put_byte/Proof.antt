@@ -1,8 +1,8 @@
 -- One store, by `put-set`.
-use Rattle.plan_write.proofs.Placing.{put-set}
+use Rattle.output.proofs.Placing.{put-set}
 use borrow.Author.Needs.{needs}
-use Rattle.plan_write.proofs.place.put_byte.Statement.{statement}
-use Rattle.plan_write.proofs.place.put_byte.Tie as tie
+use Rattle.output.proofs.put_byte.Statement.{statement}
+use Rattle.output.proofs.put_byte.Tie as tie
 
 slice-write-out : tie.Need-slice-write-out
 slice-write-out c = search needs

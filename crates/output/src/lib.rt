@@ -1,0 +1,22 @@
+// Bytes put at a place of a lent output: each function hands back the place behind them, and every other byte stays as it was.
+// Inner functions of the writers above, which have tested that there is room.
+ghost use Prim.Native.Nat.{_+_, _<_, _≤_};
+ghost use mathlib.Core.List.{[], _∷_};
+ghost use lib.ListN.{length};
+ghost use Rattle.output.specs.Places.{Put};
+
+pub fn put_byte(out: &mut [u8], at: usize, b: u8) -> usize
+    requires { ⌜ at < length (now out) ⌝ }
+    ensures { λ r. ⌜ Put (b ∷ []) at (now (out .entry)) r (now (out .exit)) ⌝ }
+{
+    out[at] = b;
+    at + 1
+}
+
+pub fn put_bytes(out: &mut [u8], at: usize, value: &[u8]) -> usize
+    requires { ⌜ at + length (now value) ≤ length (now out) ⌝ }
+    ensures { λ r. ⌜ Put (now (value .entry)) at (now (out .entry)) r (now (out .exit)) ⌝ }
+{
+    let n = bytes::copy(value, &mut out[at..]);
+    at + n
+}
