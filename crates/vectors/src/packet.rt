@@ -104,6 +104,8 @@ pub(crate) fn packets() {
         plan,
         b"\x45\x00\x00\x1c\x00\x00\x00\x00\x40\x01\x8e\xa8\xc0\x00\x02\x03\xc6\x33\x64\x02\x03\xe8\x07\xd0\x00\x08\x07\xed",
     );
+    let longest = longest_packet();
+    counted(b"1500 bytes", g, plan, &longest);
     let long = [0u8; 1501];
     sent(b"1501 bytes", g, plan, &long);
     sent(
@@ -182,6 +184,32 @@ pub(crate) fn packets() {
         plan,
         b"\x02\x45\x00\x00\x1c\x00\x00\x00\x00\x3f\x11\x8f\x98\x00\x08\xec\x52",
     );
+    received_small(
+        b"small output",
+        other,
+        plan,
+        b"\x02\x45\x00\x00\x1c\x00\x00\x00\x00\x3f\x11\x8f\x98\x00\x08\xec\x52",
+    );
+}
+
+// A packet of 1,500 bytes.
+fn longest_packet() -> [u8; 1500] {
+    let mut p = [0u8; 1500];
+    p[0] = 0x45;
+    p[2] = 0x05;
+    p[3] = 0xdc;
+    p[8] = 0x40;
+    p[9] = 0x11;
+    p[10] = 0x88;
+    p[11] = 0xd8;
+    p[12] = 0xc0;
+    p[14] = 0x02;
+    p[15] = 0x03;
+    p[16] = 0xc6;
+    p[17] = 0x33;
+    p[18] = 0x64;
+    p[19] = 0x02;
+    p
 }
 
 // A list whose count is over the limit.
@@ -203,6 +231,18 @@ fn sent(name: &[u8], g: Grants, plan: Plan, packet: &[u8]) {
     shown(name, a, &out);
 }
 
+// How many bytes are written.
+fn counted(name: &[u8], g: Grants, plan: Plan, packet: &[u8]) {
+    let mut out = [0u8; 1508];
+    let a = tunnel::send(g, plan, packet, &mut out);
+    crate::text(name);
+    crate::text(b": number ");
+    crate::decimal(a.number() as u64);
+    crate::text(b" length ");
+    crate::decimal(a.length() as u64);
+    crate::text(b"\n");
+}
+
 // An output that is one byte too small.
 fn small(name: &[u8], g: Grants, plan: Plan, packet: &[u8]) {
     let mut out = [0u8; 1507];
@@ -212,6 +252,12 @@ fn small(name: &[u8], g: Grants, plan: Plan, packet: &[u8]) {
 
 fn received(name: &[u8], g: Grants, plan: Plan, datagram: &[u8]) {
     let mut out = [0u8; 1500];
+    let a = tunnel::receive(g, plan, datagram, &mut out);
+    shown(name, a, &out);
+}
+
+fn received_small(name: &[u8], g: Grants, plan: Plan, datagram: &[u8]) {
+    let mut out = [0u8; 1499];
     let a = tunnel::receive(g, plan, datagram, &mut out);
     shown(name, a, &out);
 }
