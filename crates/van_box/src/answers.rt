@@ -166,7 +166,10 @@ fn stream_record(grants: Grants, bytes: &[u8], out: &mut [u8], output: Output) -
     let mut step = capsule_record(grants, bytes, 0, out, output);
     let mut at: usize = 0;
     let mut next = step.next;
-    while at < next && next < bytes.len() {
+    while at < next {
+        if bytes.len() <= next {
+            break;
+        }
         at = next;
         let grants_now = step.grants;
         let waiting = step.output;

@@ -1,6 +1,6 @@
 // Records on standard input: one byte kind, two bytes big-endian length, and that many bytes.
 use libc::STDIN_FILENO;
-ghost use Prim.Native.Nat.{_+_, _≤_};
+ghost use Prim.Native.Nat.{_+_, _<_, _≤_};
 ghost use lib.ListN.{length};
 
 // The bytes of a record in front of its body.
@@ -24,13 +24,19 @@ pub(crate) fn record_size(bytes: &[u8], at: usize) -> usize
     if left < RECORD_HEAD {
         return 0;
     }
-    let high = bytes[at + 1] as usize;
-    let low = bytes[at + 2] as usize;
+    let high = wide(bytes[at + 1]);
+    let low = wide(bytes[at + 2]);
     let size = RECORD_HEAD + high * 256 + low;
     if left < size {
         return 0;
     }
     size
+}
+
+fn wide(b: u8) -> usize
+    ensures { λ r. ⌜ r < 256 ⌝ }
+{
+    b as usize
 }
 
 // Moves the bytes from a place up to the end to the front, and answers how many they are.

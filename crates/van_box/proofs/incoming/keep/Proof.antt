@@ -1,56 +1,48 @@
+-- The place is within what is left, and a store keeps the length.
+use Prim.Native.Nat.{_≤_, _-_}
+use native.Mathlib.Omega.{arith}
+use mathlib.Core.Path.{_≡_, refl}
+use lib.ListN.{length, length-set}
 use borrow.Author.Needs.{needs}
 use Rattle.van_box.proofs.incoming.keep.Statement.{statement}
 use Rattle.van_box.proofs.incoming.keep.Tie as tie
-use Rattle.van_box.proofs.incoming.keep.Reads as reads
-use Rattle.van_box.proofs.incoming.keep.Lts as lts
 
 abbrev Inv-loop : tie.InvT-loop
-Inv-loop input₀ at end left i₀ input i = ?
+Inv-loop input₀ at end left i₀ input i = (i ≤ left) × (length input ≡ length input₀)
 
 abbrev μ-loop : tie.MeasureT-loop
-μ-loop input₀ at end left i₀ input i = ?
+μ-loop input₀ at end left i₀ input i = left - i
 
--- src/incoming.rt:42:16
 sub-left : tie.Need-sub-left Inv-loop μ-loop
 sub-left c = search needs
 
--- src/incoming.rt:44:9
 returns : tie.Need-returns Inv-loop μ-loop
 returns c = search needs
 
--- src/incoming.rt:47:5
 loop-holds : tie.Need-loop-holds Inv-loop μ-loop
-loop-holds c = search needs
+loop-holds c = (omega arith, refl)
 
--- src/incoming.rt:48:26
 add-input : tie.Need-add-input Inv-loop μ-loop
 add-input c = search needs
 
--- src/incoming.rt:48:20
 slice-read-input : tie.Need-slice-read-input Inv-loop μ-loop
 slice-read-input c = search needs
 
--- src/incoming.rt:48:9
 slice-write-input : tie.Need-slice-write-input Inv-loop μ-loop
 slice-write-input c = search needs
 
--- src/incoming.rt:49:9
 add-i : tie.Need-add-i Inv-loop μ-loop
 add-i c = search needs
 
--- src/incoming.rt:47:5
 loop-less : tie.Need-loop-less Inv-loop μ-loop
 loop-less c = search needs
 
--- src/incoming.rt:47:5
 loop-again : tie.Need-loop-again Inv-loop μ-loop
-loop-again c = search needs
+loop-again c = (omega arith, simp length-set (c .before .before .loop .inv .1))
 
--- src/incoming.rt:37:1
 same-length : tie.Need-same-length Inv-loop μ-loop
-same-length c = search needs
+same-length c = c .before .loop .inv .1
 
--- src/incoming.rt:37:1
 returns-2 : tie.Need-returns-2 Inv-loop μ-loop
 returns-2 c = search needs
 
