@@ -4,3 +4,4 @@ pub mod Taken
 pub mod WriteCases
 pub mod EntriesPart
 pub mod StreamCases
+pub mod RecordLaws

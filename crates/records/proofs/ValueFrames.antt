@@ -8,7 +8,7 @@ use mathlib.Core.Logic.{⊎-elim}
 use native.Mathlib.Omega.{arith}
 use borrow.Author.Tests.{lt-ltb, le-ltb}
 use lib.ListN.{length, take, drop, set}
-use lib.Seq.{take-append-seam}
+use lib.Seq.{take-append-seam, drop-at}
 use Rattle.answer.specs.declared.Answer.{Answer}
 use Rattle.answer.specs.declared.Answer.the-variants as Answer
 use Rattle.answer.specs.declared.Refusal.{Refusal}
@@ -18,7 +18,10 @@ use Rattle.answer.specs.declared.Verdict.the-variants.{Go, Stop}
 use Rattle.answer.specs.Verdict.{answerOf, Writes}
 use Rattle.answer.proofs.Tables.{done-go, done-count}
 use Rattle.answer.proofs.Tests.{order}
-use Rattle.varint.specs.Numbers.{encode, encodedSize}
+use Rattle.varint.specs.declared.NumberRead.the-variants.{Whole}
+use Rattle.varint.specs.Numbers.{limit, readNumber, encode, encodedSize}
+use Rattle.varint.proofs.Encoding.{length-encode}
+use Rattle.varint.proofs.RoundTrip.{read-encode}
 use Rattle.lists.specs.declared.AddressEntry.{AddressEntry}
 use Rattle.lists.specs.declared.RouteRange.{RouteRange}
 use Rattle.lists.specs.Words.{maxAddresses, maxRanges}
@@ -26,8 +29,11 @@ use Rattle.capsule.specs.declared.Outcome.the-variants.{Refused}
 use Rattle.capsule.specs.declared.CapsuleRead.{CapsuleRead}
 use Rattle.capsule.specs.Elements.{Parsed, fault, all, elementsIn}
 use Rattle.capsule.specs.Entries.{entryFormat, rangeFormat}
-use Rattle.capsule.specs.Capsules.{maxValue, datagram, assign, request, advertise, listed, readValue, readCapsule, frameBytes, capsuleBytes}
+use Rattle.capsule.specs.Capsules.{maxValue, datagram, assign, request, advertise, listed, readValue, inFrame, frameOf, readCapsule, frameBytes, capsuleBytes}
 use Rattle.capsule.specs.Results.{alone, resultAt, readAt, addressResult, routeResult}
+use Rattle.capsule.specs.declared.FrameRead.{FrameRead}
+use Rattle.capsule.specs.declared.FrameRead.the-variants as Frame
+use Rattle.capsule.proofs.FrameCases as Cases
 use Rattle.capsule.proofs.RoundTrip.{read-framed}
 use Rattle.capsule_write.specs.Verdicts.{capsuleRoom, datagramVerdict}
 use Rattle.capsule_write.proofs.Accepted.{datagram-go}
@@ -162,3 +168,29 @@ module _ (v : List ℕ) where
   pub ranges-taken : (rs : List RouteRange) → rangesIn v ≡ all rs → elementsIn rangeFormat false maxRanges v ≡ all rs
   ranges-taken rs e =
       ⊎-elim (λ h. let z : fault TooLong ≡ all rs = sym (ranges-long h) ∙ e in cc) (λ h. sym (ranges-short h) ∙ e) (order maxValue (length v))
+
+-- ---- as long as a frame can hold the length, `readAs` is the frame read
+
+module _ (kind : ℕ) (v : List ℕ) (k : kind ≤ 3) (h : length v < limit) where
+  long-frame : maxValue < length v → frameOf (frameBytes kind v) ≡ Frame.Refused TooLong
+  long-frame l =
+      let type : readNumber (frameBytes kind v) ≡ Whole kind (encodedSize kind) = read-encode kind (encode (length v) ++ v) (omega arith) in
+      let behind : drop (encodedSize kind) (frameBytes kind v) ≡ encode (length v) ++ v =
+      drop-at (encode kind) (encode (length v) ++ v) (encodedSize kind) (length-encode kind) in
+      let count : readNumber (drop (encodedSize kind) (frameBytes kind v)) ≡ Whole (length v) (encodedSize (length v)) =
+      rw behind (read-encode (length v) v h) in
+      sym (Cases.too-long (frameBytes kind v) kind (encodedSize kind + encodedSize (length v)) (length v) k l
+      ∙ Cases.framed (frameBytes kind v) kind (encodedSize kind) type (length v) (encodedSize (length v)) count)
+
+  long-read : maxValue < length v → readAt (frameBytes kind v) 0 ≡ alone (Refused TooLong)
+  unfolding readAt readCapsule
+  long-read l = ap (λ (f : FrameRead). resultAt 0 (inFrame (frameBytes kind v) f)) (long-frame l)
+
+type-most : (k : ListKind) → typeOf k ≤ 3
+type-most Assign = omega arith
+type-most Request = omega arith
+type-most Routes = omega arith
+
+pub as-frame : (k : ListKind) (v : List ℕ) → length v < limit → readAs k v ≡ readAt (frameBytes (typeOf k) v) 0
+as-frame k v h =
+    ⊎-elim (λ l. as-long k v l ∙ sym (long-read (typeOf k) v (type-most k) h l)) (λ l. as-framed k v l) (order maxValue (length v))
