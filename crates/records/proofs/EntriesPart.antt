@@ -1,5 +1,5 @@
 -- The entries of a request behind the type and the length of its capsule. Assumes nothing.
-use Prim.Native.Nat.{ℕ, zero, suc, _+_, _-_, _<_, _≤_}
+use Prim.Native.Nat.{ℕ, _+_, _-_, _≤_}
 use mathlib.Core.Bool.{true}
 use mathlib.Core.Path.{_≡_, refl, sym, ap, _∙_}
 use mathlib.Core.List.{List, [], _∷_, _++_, append-assoc}
@@ -7,7 +7,6 @@ use native.Mathlib.Omega.{arith}
 use lib.ListN.{length, take, drop, length-append}
 use lib.Seq.{take-at, drop-at, drop-drop}
 use Rattle.answer.specs.declared.Answer.{Answer}
-use Rattle.answer.specs.declared.Answer.the-variants as Answer
 use Rattle.answer.specs.declared.Verdict.the-variants.{Go}
 use Rattle.answer.specs.Number.{answerLength}
 use Rattle.answer.specs.Verdict.{Writes}
@@ -48,63 +47,58 @@ entriesValue w = written (entryFormat true) (entriesOf w)
 abbrev pub countSize : List ℕ → ℕ
 countSize w = encodedSize (length (entriesValue w))
 
-pub part-bounds : (w : List ℕ) → (1 ≤ countSize w) × (countSize w ≤ 8)
-part-bounds w = size-bounds (length (entriesValue w))
+pub size-most : (w : List ℕ) → countSize w ≤ 8
+size-most w = size-bounds (length (entriesValue w)) .1
 
 type-byte : (v : List ℕ) → frameBytes 2 v ≡ 2 ∷ (encode (length v) ++ v)
 unfolding encode
 type-byte v = refl
 
+-- b starts with a request of the words w, in n bytes
+pub record Behind (w b : List ℕ) (n : ℕ) : Type 0 where
+  pub count : n ≡ 1 + countSize w + length (entriesValue w)
+  pub most : length (entriesValue w) ≤ maxValue
+  pub within : n ≤ length b
+  pub number : take (n - 1) (drop 1 b) ≡ encode (length (entriesValue w)) ++ entriesValue w
+  pub value : take (n - (1 + countSize w)) (drop (1 + countSize w) b) ≡ entriesValue w
+
+message : (w : List ℕ) → capsuleBytes (request (entriesOf w)) ≡ 2 ∷ (encode (length (entriesValue w)) ++ entriesValue w)
+message w = sym (request-frame w) ∙ type-byte (entriesValue w)
+
 -- a request of the words w written to a, which is b afterwards
-module _ (w : List ℕ) {a b : List ℕ} {r : Answer} {n : ℕ} (go : entriesVerdict true w ≡ Go)
-    (writes : Writes (addressVerdict true w (length a)) (capsuleBytes (request (entriesOf w))) a r b) (room : capsuleRoom ≤ length a)
-    (count : n ≡ answerLength r) where
-  goes : addressVerdict true w (length a) ≡ Go
-  goes = address-says true w (length a) room refl go
+pub behind : (w : List ℕ) {a b : List ℕ} {r : Answer} {n : ℕ} → entriesVerdict true w ≡ Go
+    → Writes (addressVerdict true w (length a)) (capsuleBytes (request (entriesOf w))) a r b → capsuleRoom ≤ length a → n ≡ answerLength r
+    → Behind w b n
+behind w {a} {b} {r} {n} go writes room count =
+    let v = entriesValue w in
+    let m : List ℕ = 2 ∷ (encode (length v) ++ v) in
+    let rest = drop (length (capsuleBytes (request (entriesOf w)))) a in
+    let goes = address-says true w (length a) room refl go in
+    let e : n ≡ length (capsuleBytes (request (entriesOf w))) = count ∙ ap answerLength (rw goes at (writes .answer)) in
+    let l : length m ≡ 1 + length (encode (length v) ++ v) = omega arith in
+    let k : n ≡ 1 + countSize w + length v = omega (arith, ap length (message w), front-length 2 v []) in
+    let o : b ≡ m ++ rest = rw goes at (writes .output) ∙ ap (λ (x : List ℕ). x ++ rest) (message w) in
+    record {
+      count = k;
+      most = entries-go true w go .value;
+      within = omega (arith, ap length o, length-append m rest, front-length 2 v []);
+      number = ap (λ (x : List ℕ). take (n - 1) (drop 1 x)) o ∙ behind-byte 2 v rest n k;
+      value = ap (λ (x : List ℕ). take (n - (1 + countSize w)) (drop (1 + countSize w) x)) o ∙ behind-count 2 v rest n k;
+    }
 
-  message : capsuleBytes (request (entriesOf w)) ≡ 2 ∷ (encode (length (entriesValue w)) ++ entriesValue w)
-  message = sym (request-frame w) ∙ type-byte (entriesValue w)
-
-  pub value-most : length (entriesValue w) ≤ maxValue
-  value-most = entries-go true w go .value
-
-  pub part-count : n ≡ 1 + countSize w + length (entriesValue w)
-  part-count =
-      let e : n ≡ length (capsuleBytes (request (entriesOf w))) = count ∙ ap answerLength (rw goes at (writes .answer)) in
-      let l : length (2 ∷ (encode (length (entriesValue w)) ++ entriesValue w)) ≡ 1 + length (encode (length (entriesValue w)) ++ entriesValue w) = omega arith in
-      omega (arith, ap length message, front-length 2 (entriesValue w) [])
-
-  output : b ≡ (2 ∷ (encode (length (entriesValue w)) ++ entriesValue w)) ++ drop (length (capsuleBytes (request (entriesOf w)))) a
-  output =
-      rw goes at (writes .output)
-      ∙ ap (λ (l : List ℕ). l ++ drop (length (capsuleBytes (request (entriesOf w)))) a) message
-
-  pub part-within : (1 ≤ n) × (n ≤ length b)
-  part-within =
-      let m : List ℕ = 2 ∷ (encode (length (entriesValue w)) ++ entriesValue w) in
-      let rest = drop (length (capsuleBytes (request (entriesOf w)))) a in
-      let l : length m ≡ 1 + length (encode (length (entriesValue w)) ++ entriesValue w) = omega arith in
-      (omega (arith, part-count), omega (arith, part-count, ap length output, length-append m rest, front-length 2 (entriesValue w) []))
-
-  pub part-number : {x : NumberRead} → Read (take (n - 1) (drop 1 b)) x → x ≡ Whole (length (entriesValue w)) (countSize w)
-  part-number {x} q =
-      let e : take (n - 1) (drop 1 b) ≡ encode (length (entriesValue w)) ++ entriesValue w =
-      ap (λ (l : List ℕ). take (n - 1) (drop 1 l)) output
-      ∙ behind-byte 2 (entriesValue w) (drop (length (capsuleBytes (request (entriesOf w)))) a) n part-count in
-      q .reading ∙ rw e (read-encode (length (entriesValue w)) (entriesValue w) (omega (arith, value-most)))
+module _ {w b : List ℕ} {n : ℕ} (p : Behind w b n) {x : NumberRead} (q : Read (take (n - 1) (drop 1 b)) x) where
+  number-read : x ≡ Whole (length (entriesValue w)) (countSize w)
+  number-read = q .reading ∙ rw (p .number) (read-encode (length (entriesValue w)) (entriesValue w) (omega (arith, p .most)))
 
   -- the size that was read
-  pub part-size : {x : NumberRead} → Read (take (n - 1) (drop 1 b)) x → {v k : ℕ} → x ≡ Whole v k → k ≡ countSize w
-  part-size q {v} {k} e = let z : Whole v k ≡ Whole (length (entriesValue w)) (countSize w) = sym e ∙ part-number q in cc
+  pub read-size : {v k : ℕ} → x ≡ Whole v k → k ≡ countSize w
+  read-size {v} {k} e = let z : Whole v k ≡ Whole (length (entriesValue w)) (countSize w) = sym e ∙ number-read in cc
 
-  pub part-not-cut : {x : NumberRead} → Read (take (n - 1) (drop 1 b)) x → x ≡ Cut → ⊥
-  part-not-cut q e =
-      let z : Cut ≡ Whole (length (entriesValue w)) (countSize w) = sym e ∙ part-number q in
+  pub never-cut : x ≡ Cut → ⊥
+  never-cut e =
+      let z : Cut ≡ Whole (length (entriesValue w)) (countSize w) = sym e ∙ number-read in
       let o : _≡_ {A = ℕ} 0 1 = cc in
       omega arith
 
-  pub part-value : {k : ℕ} → k ≡ countSize w → take (n - (1 + k)) (drop (1 + k) b) ≡ entriesValue w
-  part-value {k} e =
-      ap (λ (i : ℕ). take (n - (1 + i)) (drop (1 + i) b)) e
-      ∙ ap (λ (l : List ℕ). take (n - (1 + countSize w)) (drop (1 + countSize w) l)) output
-      ∙ behind-count 2 (entriesValue w) (drop (length (capsuleBytes (request (entriesOf w)))) a) n part-count
+pub value-at : {w b : List ℕ} {n k : ℕ} → Behind w b n → k ≡ countSize w → take (n - (1 + k)) (drop (1 + k) b) ≡ entriesValue w
+value-at {w} {b} {n} p e = ap (λ (i : ℕ). take (n - (1 + i)) (drop (1 + i) b)) e ∙ p .value

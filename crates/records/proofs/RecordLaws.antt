@@ -13,24 +13,20 @@ use Rattle.answer.specs.declared.Verdict.the-variants.{Go, Stop}
 use Rattle.answer.specs.Choice.{pick}
 use Rattle.answer.specs.Verdict.{answerOf}
 use Rattle.answer.proofs.Tables.{go-rest}
-use Rattle.lists.specs.declared.AddressEntry.{AddressEntry}
-use Rattle.lists.specs.declared.RouteRange.{RouteRange}
 use Rattle.lists.specs.Words.{addressList, routeList}
 use Rattle.capsule.specs.declared.Outcome.{Outcome}
 use Rattle.capsule.specs.declared.Outcome.the-variants.{Datagram, Assigned, Requested, Advertised, Skipped, Refused}
 use Rattle.capsule.specs.Elements.{Parsed, fault, all}
-use Rattle.capsule.specs.Capsules.{assign, advertise, capsuleBytes}
 use Rattle.capsule.specs.Results.{nextPlace, alone}
 use Rattle.capsule.proofs.ReadLaws.{addresses-sound, routes-sound}
 use Rattle.capsule_write.specs.Verdicts.{capsuleRoom}
 use Rattle.grant.specs.declared.Grants.{Grants}
 use Rattle.grant.specs.State.{soundGrants, withGivenAddresses, withGivenRoutes}
-use Rattle.exchange.specs.declared.GrantsRead.{GrantsRead}
 use Rattle.exchange.specs.declared.GrantsWritten.{GrantsWritten}
 use Rattle.exchange.specs.Exchange.{stateOf, readGrants}
 use Rattle.exchange.proofs.ReadLaws.{sound-given-addresses, sound-given-routes, refusal-leaves, read-keeps-sound}
 use Rattle.records.specs.declared.stream.CapsuleAnswered.{CapsuleAnswered}
-use Rattle.records.specs.Values.{outcomeVerdict, entriesIn, rangesIn, parsedVerdict, elementsOf, assignVerdict, advertiseVerdict, GivenWritten}
+use Rattle.records.specs.Values.{outcomeVerdict, entriesIn, rangesIn, parsedVerdict, elementsOf, assignVerdict, advertiseVerdict, GivenWritten, AssignAnswered, AdvertiseAnswered}
 use Rattle.records.specs.Stream.{readTo, handedBack, StreamRead}
 use Rattle.records.proofs.ValueFrames.{entries-taken, ranges-taken}
 use Rattle.records.proofs.Taken.{entries-ruled, ranges-ruled}
@@ -58,8 +54,7 @@ parsed-go (fault r) e = cc
 parsed-go (all xs) e = refl
 
 module _ (g : Grants) (s before : List ℕ) (r : GrantsWritten) (after : List ℕ) (h : soundGrants g ≡ true) where
-  pub assign-keeps-sound : GivenWritten (assignVerdict g s (length before)) (capsuleBytes (assign (elementsOf (entriesIn false s)))) (withGivenAddresses g (addressList (elementsOf (entriesIn false s)))) g before r after
-      → soundGrants (r .grants) ≡ true
+  pub assign-keeps-sound : AssignAnswered g s before r after → soundGrants (r .grants) ≡ true
   unfolding assignVerdict
   assign-keeps-sound w = given-keeps w h sound
     where
@@ -69,8 +64,7 @@ module _ (g : Grants) (s before : List ℕ) (r : GrantsWritten) (after : List �
           let p = parsed-go (entriesIn false s) (go-rest (not (soundGrants g)) BrokenState _ (go-rest (ltb (length before) capsuleRoom) NoRoom _ e)) in
           sound-given-addresses g h (addressList es) (addresses-sound false es (entries-ruled false s es (entries-taken s false es p)))
 
-  pub advertise-keeps-sound : GivenWritten (advertiseVerdict g s (length before)) (capsuleBytes (advertise (elementsOf (rangesIn s)))) (withGivenRoutes g (routeList (elementsOf (rangesIn s)))) g before r after
-      → soundGrants (r .grants) ≡ true
+  pub advertise-keeps-sound : AdvertiseAnswered g s before r after → soundGrants (r .grants) ≡ true
   unfolding advertiseVerdict
   advertise-keeps-sound w = given-keeps w h sound
     where

@@ -1,32 +1,28 @@
 -- A capsule of the stream: where the value of a DATAGRAM lies, what a request's entries keep, and the ways out. Assumes nothing.
-use Prim.Native.Nat.{ℕ, suc, _+_, _-_, _<_, _≤_}
+use Prim.Native.Nat.{ℕ, _+_, _-_, _<_, _≤_}
 use mathlib.Core.Bool.{Bool, true, false}
 use mathlib.Core.Path.{_≡_, refl, sym, ap, _∙_}
-use mathlib.Core.List.{List, [], _∷_, _++_}
+use mathlib.Core.List.{List, []}
 use native.Mathlib.Omega.{arith}
 use borrow.Author.Tests.{lt-ltb, le-ltb}
-use lib.ListN.{length, take, drop, length-take, length-drop, length-append}
+use lib.ListN.{length, take, drop, length-take, length-drop}
 use Rattle.answer.specs.declared.Answer.{Answer}
 use Rattle.answer.specs.declared.Answer.the-variants as Answer
 use Rattle.answer.specs.declared.Refusal.{Refusal}
 use Rattle.answer.specs.declared.Refusal.the-variants.{NoRoom, BrokenState}
-use Rattle.answer.specs.declared.Verdict.{Verdict}
-use Rattle.answer.specs.declared.Verdict.the-variants.{Go, Stop}
+use Rattle.answer.specs.declared.Verdict.the-variants.{Go}
 use Rattle.answer.specs.Choice.{pick}
-use Rattle.answer.specs.Verdict.{answerOf, Writes}
 use Rattle.varint.proofs.Reading as Number
 use Rattle.lists.specs.declared.AddressList.{AddressList}
-use Rattle.lists.specs.Words.{maxAddresses, entriesOf, noAddresses, packEntries}
+use Rattle.lists.specs.Words.{entriesOf}
 use Rattle.capsule.specs.declared.Outcome.{Outcome}
-use Rattle.capsule.specs.declared.Outcome.the-variants.{Datagram, Assigned, Requested, Advertised, Skipped, Refused}
-use Rattle.capsule.specs.declared.CapsuleRead.{CapsuleRead}
+use Rattle.capsule.specs.declared.Outcome.the-variants.{Datagram, Requested, Refused}
 use Rattle.capsule.specs.Elements.{written}
 use Rattle.capsule.specs.Entries.{entryFormat}
-use Rattle.capsule.specs.Capsules.{maxValue, Capsule, datagram, assign, request, advertise, unknown, Reading, refused, capsule, readCapsule}
+use Rattle.capsule.specs.Capsules.{maxValue, Capsule, request, Reading, refused, capsule, readCapsule}
 use Rattle.capsule.specs.Results.{nextPlace, alone, handed, resultAt, readAt}
 use Rattle.capsule.proofs.ReadFacts.{Taken, is-datagram, is-assign, is-request, is-advertise, is-unknown, read-facts}
-use Rattle.capsule.proofs.ReadLaws.{read-within}
-use Rattle.capsule_write.specs.Verdicts.{capsuleRoom, entriesVerdict}
+use Rattle.capsule_write.specs.Verdicts.{capsuleRoom}
 use Rattle.capsule_write.proofs.Frames as Frames
 use Rattle.output.specs.Places.{Put}
 use Rattle.output.proofs.Placing.{put-as}
@@ -34,7 +30,6 @@ use Rattle.grant.specs.declared.Grants.{Grants}
 use Rattle.grant.specs.State.{soundGrants}
 use Rattle.exchange.specs.declared.GrantsRead.{GrantsRead}
 use Rattle.exchange.specs.Exchange.{readResult, readGrants}
-use Rattle.records.specs.declared.stream.CapsuleAnswered.{CapsuleAnswered}
 use Rattle.records.specs.Values.{outcomeVerdict}
 use Rattle.records.specs.Stream.{readTo, handedBack, Handable, HandsBack, StreamRead}
 use Rattle.records.proofs.Taken.{entries-ruled, ruled-entries-go}

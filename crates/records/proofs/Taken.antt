@@ -1,12 +1,10 @@
 -- A list that was read is written: it keeps the rules, and its words hold it. Assumes nothing.
 use Prim.Native.Nat.{ℕ, _≤_, min}
-use mathlib.Core.Bool.{Bool, true, false}
-use mathlib.Core.Path.{_≡_, refl, sym, ap, _∙_}
-use mathlib.Core.List.{List, []}
+use mathlib.Core.Bool.{Bool, false}
+use mathlib.Core.Path.{_≡_, sym, ap, _∙_}
+use mathlib.Core.List.{List}
 use native.Mathlib.Omega.{arith}
-use lib.ListN.{length}
 use Rattle.answer.specs.declared.Verdict.the-variants.{Go}
-use Rattle.answer.specs.Verdict.{_then_}
 use Rattle.lists.specs.declared.AddressEntry.{AddressEntry}
 use Rattle.lists.specs.declared.RouteRange.{RouteRange}
 use Rattle.octets.specs.Scan.{from}
@@ -14,7 +12,7 @@ use Rattle.lists.specs.Rules.{beforeAll}
 use Rattle.lists.specs.Words.{maxAddresses, maxRanges, countOf, entryAt, rangeAt, entriesOf, rangesOf, packEntries, packRanges}
 use Rattle.lists.proofs.Views.{entries-pack, count-pack-entries, ranges-pack, count-pack-ranges}
 use Rattle.lists.proofs.ListScans.{entries-within, ranges-within}
-use Rattle.capsule.specs.Elements.{all, elementsIn, judged, countVerdict}
+use Rattle.capsule.specs.Elements.{all, elementsIn}
 use Rattle.capsule.specs.Entries.{entryFormat, rangeFormat}
 use Rattle.capsule.specs.Sound.{Ruled}
 use Rattle.capsule.proofs.Parsing as Parsing

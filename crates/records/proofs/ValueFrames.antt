@@ -1,6 +1,6 @@
 -- A value read in the frame of its capsule: the frame is that of a DATAGRAM with another type, and what is read is the elements of the value.
 -- Assumes nothing.
-use Prim.Native.Nat.{ℕ, suc, _+_, _<_, _≤_}
+use Prim.Native.Nat.{ℕ, _+_, _<_, _≤_}
 use mathlib.Core.Bool.{Bool, true, false}
 use mathlib.Core.Path.{_≡_, refl, sym, ap, _∙_}
 use mathlib.Core.List.{List, [], _∷_, _++_, append-nil}
@@ -26,7 +26,6 @@ use Rattle.lists.specs.declared.AddressEntry.{AddressEntry}
 use Rattle.lists.specs.declared.RouteRange.{RouteRange}
 use Rattle.lists.specs.Words.{maxAddresses, maxRanges}
 use Rattle.capsule.specs.declared.Outcome.the-variants.{Refused}
-use Rattle.capsule.specs.declared.CapsuleRead.{CapsuleRead}
 use Rattle.capsule.specs.Elements.{Parsed, fault, all, elementsIn}
 use Rattle.capsule.specs.Entries.{entryFormat, rangeFormat}
 use Rattle.capsule.specs.Capsules.{maxValue, datagram, assign, request, advertise, listed, readValue, inFrame, frameOf, readCapsule, frameBytes, capsuleBytes}

@@ -20,7 +20,7 @@ use Rattle.lists.specs.declared.RouteList.{RouteList}
 use Rattle.lists.specs.Words.{entriesOf, rangesOf, addressList, routeList, packEntries, packRanges}
 use Rattle.capsule.specs.declared.CapsuleRead.{CapsuleRead}
 use Rattle.capsule.specs.Elements.{Parsed, fault, all}
-use Rattle.capsule.specs.Capsules.{Capsule, assign, request, advertise, capsuleBytes}
+use Rattle.capsule.specs.Capsules.{assign, request, advertise, capsuleBytes}
 use Rattle.capsule.specs.Results.{addressResult, routeResult}
 use Rattle.capsule_write.specs.Verdicts.{capsuleRoom, addressVerdict}
 use Rattle.capsule_write.proofs.Frames.{refused, address-says, route-says}
@@ -31,7 +31,7 @@ use Rattle.exchange.specs.Exchange as Exchange
 use Rattle.exchange.specs.Exchange.{stateOf, AssignWritten, AdvertiseWritten}
 use Rattle.exchange.proofs.WriteCases as Exchanged
 use Rattle.records.specs.declared.ListKind.the-variants.{Assign, Request, Routes}
-use Rattle.records.specs.Values.{readAs, outcomeVerdict, entriesIn, rangesIn, parsedVerdict, elementsOf, assignVerdict, advertiseVerdict, requestVerdict, GivenWritten}
+use Rattle.records.specs.Values.{readAs, outcomeVerdict, entriesIn, rangesIn, parsedVerdict, elementsOf, assignVerdict, advertiseVerdict, requestVerdict, GivenWritten, AssignAnswered, AdvertiseAnswered, RequestAnswered}
 use Rattle.records.proofs.ValueFrames.{placeOf, as-assign, as-request, as-routes, entries-taken, ranges-taken}
 use Rattle.records.proofs.Taken.{entries-ruled, ranges-ruled, ruled-entries, ruled-entries-go, ruled-ranges, ruled-ranges-go}
 
@@ -125,7 +125,7 @@ module _ (g : Grants) (v a : List ℕ) (h : capsuleRoom ≤ length a) (f : sound
       ∙ address-says false (packEntries es) (length a) h refl (ruled-entries-go false es (entries-ruled false v es (entries-taken v false es e)))
 
   pub assign-written : {l : AddressList} {r : GrantsWritten} {b : List ℕ} → EntriesTaken false v l → AssignWritten g l a r b
-      → GivenWritten (assignVerdict g v (length a)) (capsuleBytes (assign (elementsOf (entriesIn false v)))) (withGivenAddresses g (addressList (elementsOf (entriesIn false v)))) g a r b
+      → AssignAnswered g v a r b
   assign-written {l} {r} {b} t w =
       let es = t .elements in
       let k : AssignWritten g (addressList es) a r b = rw (t .list) at w in
@@ -156,7 +156,7 @@ module _ (g : Grants) (v a : List ℕ) (h : capsuleRoom ≤ length a) (f : sound
       ∙ route-says (packRanges rs) (length a) h refl (ruled-ranges-go rs (ranges-ruled v rs (ranges-taken v rs e)))
 
   pub advertise-written : {l : RouteList} {r : GrantsWritten} {b : List ℕ} → RangesTaken v l → AdvertiseWritten g l a r b
-      → GivenWritten (advertiseVerdict g v (length a)) (capsuleBytes (advertise (elementsOf (rangesIn v)))) (withGivenRoutes g (routeList (elementsOf (rangesIn v)))) g a r b
+      → AdvertiseAnswered g v a r b
   advertise-written {l} {r} {b} t w =
       let rs = t .elements in
       let k : AdvertiseWritten g (routeList rs) a r b = rw (t .list) at w in
@@ -178,7 +178,7 @@ module _ (v : List ℕ) (n : ℕ) where
 
 pub request-written : (v a : List ℕ) → capsuleRoom ≤ length a → {l : AddressList} {r : Answer} {b : List ℕ} → EntriesTaken true v l
     → Writes (addressVerdict true (l .words) (length a)) (capsuleBytes (request (entriesOf (l .words)))) a r b
-    → Writes (requestVerdict v (length a)) (capsuleBytes (request (elementsOf (entriesIn true v)))) a r b
+    → RequestAnswered v a r b
 request-written v a h {l} {r} {b} t w =
     let es = t .elements in
     let ruled = entries-ruled true v es (entries-taken v true es (t .parsed)) in

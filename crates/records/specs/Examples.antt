@@ -1,13 +1,12 @@
 -- Lists without type and length, computed.
 use Prim.Native.Nat.{ℕ, _+_, _*_}
-use mathlib.Core.Bool.{true, false}
+use mathlib.Core.Bool.{false}
 use mathlib.Core.Path.{_≡_, refl}
 use mathlib.Core.List.{List, [], _∷_}
 use lib.ListN.{replicate}
 use Rattle.answer.specs.declared.Refusal.the-variants.{TooLong, NoRoom, BadAddress, RangesOutOfOrder, BadRequestId}
-use Rattle.answer.specs.declared.Verdict.the-variants.{Go, Stop}
+use Rattle.answer.specs.declared.Verdict.the-variants.{Stop}
 use Rattle.varint.specs.Numbers.{readNumber, encode}
-use Rattle.lists.specs.declared.AddressEntry.{AddressEntry}
 use Rattle.lists.specs.Rules.{soundEntry, soundRange, inOrder}
 use Rattle.capsule.specs.Elements.{fault, all, parse, elementsIn}
 use Rattle.capsule.specs.Entries.{readBody, readEntry, readRange, entryFollows, rangeFollows, entryBytes}

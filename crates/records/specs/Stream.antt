@@ -14,7 +14,6 @@ use Rattle.lists.specs.declared.AddressList.{AddressList}
 use Rattle.lists.specs.Words.{entriesOf}
 use Rattle.capsule.specs.declared.Outcome.{Outcome}
 use Rattle.capsule.specs.declared.Outcome.the-variants.{Datagram, Assigned, Requested, Advertised, Skipped, Refused}
-use Rattle.capsule.specs.declared.CapsuleRead.{CapsuleRead}
 use Rattle.capsule.specs.Elements.{written}
 use Rattle.capsule.specs.Entries.{entryFormat}
 use Rattle.capsule.specs.Capsules.{maxValue}

@@ -5,6 +5,7 @@ use mathlib.Core.Bool.{Bool, true, false, not}
 use mathlib.Core.List.{List, []}
 use lib.Dec.{ltb}
 use lib.ListN.{length}
+use Rattle.answer.specs.declared.Answer.{Answer}
 use Rattle.answer.specs.declared.Refusal.the-variants.{TooLong, NoRoom, BrokenState}
 use Rattle.answer.specs.declared.Verdict.{Verdict}
 use Rattle.answer.specs.declared.Verdict.the-variants.{Go, Stop}
@@ -12,17 +13,17 @@ use Rattle.answer.specs.Choice.{pick}
 use Rattle.answer.specs.Verdict.{stopIf, Writes}
 use Rattle.lists.specs.declared.AddressEntry.{AddressEntry}
 use Rattle.lists.specs.declared.RouteRange.{RouteRange}
-use Rattle.lists.specs.Words.{maxAddresses, maxRanges}
+use Rattle.lists.specs.Words.{maxAddresses, maxRanges, addressList, routeList}
 use Rattle.capsule.specs.declared.Outcome.{Outcome}
 use Rattle.capsule.specs.declared.Outcome.the-variants.{Datagram, Assigned, Requested, Advertised, Skipped, Refused}
 use Rattle.capsule.specs.declared.CapsuleRead.{CapsuleRead}
 use Rattle.capsule.specs.Elements.{Parsed, fault, all, elementsIn}
 use Rattle.capsule.specs.Entries.{entryFormat, rangeFormat}
-use Rattle.capsule.specs.Capsules.{maxValue, frameBytes}
+use Rattle.capsule.specs.Capsules.{maxValue, assign, request, advertise, frameBytes, capsuleBytes}
 use Rattle.capsule.specs.Results.{alone, readAt}
 use Rattle.capsule_write.specs.Verdicts.{capsuleRoom}
 use Rattle.grant.specs.declared.Grants.{Grants}
-use Rattle.grant.specs.State.{soundGrants}
+use Rattle.grant.specs.State.{soundGrants, withGivenAddresses, withGivenRoutes}
 use Rattle.exchange.specs.declared.GrantsWritten.{GrantsWritten}
 use Rattle.exchange.specs.Exchange.{stateOf}
 use Rattle.records.specs.declared.ListKind.{ListKind}
@@ -79,3 +80,18 @@ requestVerdict v n = stopIf (ltb n capsuleRoom) NoRoom (parsedVerdict (entriesIn
 pub record GivenWritten (v : Verdict) (message : List ℕ) (given g : Grants) (before : List ℕ) (r : GrantsWritten) (after : List ℕ) : Type 0 where
   pub writes : Writes v message before (r .answer) after
   pub state : r .grants ≡ stateOf v given g
+
+-- what entries to assign, and ranges to advertise, answer and leave: the list becomes the given one, and the capsule is written
+abbrev pub AssignAnswered : Grants → List ℕ → List ℕ → GrantsWritten → List ℕ → Type 0
+AssignAnswered g v before r after =
+    GivenWritten (assignVerdict g v (length before)) (capsuleBytes (assign (elementsOf (entriesIn false v))))
+    (withGivenAddresses g (addressList (elementsOf (entriesIn false v)))) g before r after
+
+abbrev pub AdvertiseAnswered : Grants → List ℕ → List ℕ → GrantsWritten → List ℕ → Type 0
+AdvertiseAnswered g v before r after =
+    GivenWritten (advertiseVerdict g v (length before)) (capsuleBytes (advertise (elementsOf (rangesIn v))))
+    (withGivenRoutes g (routeList (elementsOf (rangesIn v)))) g before r after
+
+-- entries to request change no list
+abbrev pub RequestAnswered : List ℕ → List ℕ → Answer → List ℕ → Type 0
+RequestAnswered v before r after = Writes (requestVerdict v (length before)) (capsuleBytes (request (elementsOf (entriesIn true v)))) before r after

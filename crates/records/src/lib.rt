@@ -14,15 +14,8 @@ use grant::Grants;
 pub use stream::CapsuleAnswered;
 pub use stream::next_capsule;
 ghost use mathlib.Core.Path.{_≡_};
-ghost use mathlib.Core.Bool.{true, false};
-ghost use lib.ListN.{length};
-ghost use Rattle.answer.specs.Verdict.{Writes};
-ghost use Rattle.lists.specs.Words.{addressList, routeList};
-ghost use Rattle.capsule.specs.Capsules.{capsuleBytes};
-ghost use Rattle.capsule.specs.Capsules as Capsules;
 ghost use Rattle.capsule.specs.Results.{alone};
-ghost use Rattle.grant.specs.State.{withGivenAddresses, withGivenRoutes};
-ghost use Rattle.records.specs.Values.{typeOf, readAs, outcomeVerdict, entriesIn, rangesIn, elementsOf, assignVerdict, requestVerdict, advertiseVerdict, GivenWritten};
+ghost use Rattle.records.specs.Values.{typeOf, readAs, outcomeVerdict, AssignAnswered, AdvertiseAnswered, RequestAnswered};
 
 // The capsules that hold a list.
 pub enum ListKind {
@@ -92,7 +85,7 @@ fn verdict_of(outcome: Outcome) -> Verdict
 
 // Address entries to assign: they become the given ones, and the output holds the ADDRESS_ASSIGN.
 pub fn assign(grants: Grants, value: &[u8], out: &mut [u8]) -> GrantsWritten
-    ensures { λ r. ⌜ GivenWritten (assignVerdict grants (now (value .entry)) (length (now (out .entry)))) (capsuleBytes (Capsules.assign (elementsOf (entriesIn false (now (value .entry)))))) (withGivenAddresses grants (addressList (elementsOf (entriesIn false (now (value .entry)))))) grants (now (out .entry)) r (now (out .exit)) ⌝ }
+    ensures { λ r. ⌜ AssignAnswered grants (now (value .entry)) (now (out .entry)) r (now (out .exit)) ⌝ }
 {
     if out.len() < CAPSULE_ROOM {
         let answer = Answer::Refused(Refusal::NoRoom);
@@ -119,7 +112,7 @@ pub fn assign(grants: Grants, value: &[u8], out: &mut [u8]) -> GrantsWritten
 
 // Route ranges to advertise: they become the given ones, and the output holds the ROUTE_ADVERTISEMENT.
 pub fn advertise(grants: Grants, value: &[u8], out: &mut [u8]) -> GrantsWritten
-    ensures { λ r. ⌜ GivenWritten (advertiseVerdict grants (now (value .entry)) (length (now (out .entry)))) (capsuleBytes (Capsules.advertise (elementsOf (rangesIn (now (value .entry)))))) (withGivenRoutes grants (routeList (elementsOf (rangesIn (now (value .entry)))))) grants (now (out .entry)) r (now (out .exit)) ⌝ }
+    ensures { λ r. ⌜ AdvertiseAnswered grants (now (value .entry)) (now (out .entry)) r (now (out .exit)) ⌝ }
 {
     if out.len() < CAPSULE_ROOM {
         let answer = Answer::Refused(Refusal::NoRoom);
@@ -146,7 +139,7 @@ pub fn advertise(grants: Grants, value: &[u8], out: &mut [u8]) -> GrantsWritten
 
 // Address entries to ask for: the output holds the ADDRESS_REQUEST. No list changes.
 pub fn request(value: &[u8], out: &mut [u8]) -> Answer
-    ensures { λ r. ⌜ Writes (requestVerdict (now (value .entry)) (length (now (out .entry)))) (capsuleBytes (Capsules.request (elementsOf (entriesIn true (now (value .entry)))))) (now (out .entry)) r (now (out .exit)) ⌝ }
+    ensures { λ r. ⌜ RequestAnswered (now (value .entry)) (now (out .entry)) r (now (out .exit)) ⌝ }
 {
     if out.len() < CAPSULE_ROOM {
         return Answer::Refused(Refusal::NoRoom);

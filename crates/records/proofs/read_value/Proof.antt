@@ -44,10 +44,17 @@ refused-requires : tie.Need-refused-requires
 refused-requires c κs = search needs
 
 returns : tie.Need-returns
-returns c = c .read .ensures ∙ written-read (c .before .before .before .before .before .before .before .before .before .before .args .kind) (c .before .before .before .before .before .before .before .before .before .before .args .value .now) (c .before .before .before .before .before .before .before .write-datagram .ensures) (omega arith) (c .before .before .before .before .answer .given .1) (c .before .before .number .ensures)
+returns c =
+    let w = c .before .before .before .before .before .before .before in
+    let a = w .before .before .before .args in
+    c .read .ensures
+    ∙ written-read (a .kind) (a .value .now) (w .write-datagram .ensures) (omega arith) (c .before .before .before .before .answer .given .1) (c .before .before .number .ensures)
 
 returns-2 : tie.Need-returns-2
-returns-2 c = c .refused .ensures ∙ refused-read (c .before .before .before .before .before .before .before .before .args .kind) (c .before .before .before .before .before .before .before .before .args .value .now) (c .before .before .before .before .before .write-datagram .ensures) (omega arith) (c .before .before .answer2 .given .1)
+returns-2 c =
+    let w = c .before .before .before .before .before in
+    let a = w .before .before .before .args in
+    c .refused .ensures ∙ refused-read (a .kind) (a .value .now) (w .write-datagram .ensures) (omega arith) (c .before .before .answer2 .given .1)
 
 pub read-value-spec : {M : Type 1} → statement M
 read-value-spec =

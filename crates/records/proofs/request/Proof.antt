@@ -7,7 +7,9 @@ use Rattle.records.proofs.request.Statement.{statement}
 use Rattle.records.proofs.request.Tie as tie
 
 returns : tie.Need-returns
-returns c = let a = c .before .before .before .args in refused (request-no-room (a .value .now) (length (a .out .now)) (c .if1 .taken))
+returns c =
+    let a = c .before .before .before .args in
+    refused (request-no-room (a .value .now) (length (a .out .now)) (c .if1 .taken))
 
 read-value-requires : tie.Need-read-value-requires
 read-value-requires c κs = search needs
@@ -28,10 +30,19 @@ same-length : tie.Need-same-length
 same-length c = search needs
 
 returns-2 : tie.Need-returns-2
-returns-2 c = let a = c .before .before .before .before .before .before .before .before .before .before .before .before .args in request-written (a .value .now) (a .out .now) (c .before .before .before .before .before .before .before .before .before .if1 .left) (request-taken (a .value .now) (c .before .before .before .before .before .before .before .verdict-of .ensures) (c .before .before .before .before .before .enum-told .given .1) (c .before .before .before .before .before .before .before .before .read-value .ensures)) (c .before .before .write-request .ensures)
+returns-2 c =
+    let v = c .before .before .before .before .before .before .before in
+    let a = v .before .before .before .before .before .args in
+    request-written (a .value .now) (a .out .now) (v .before .before .if1 .left)
+    (request-taken (a .value .now) (v .verdict-of .ensures) (c .before .before .before .before .before .enum-told .given .1) (v .before .read-value .ensures)) (c .before .before .write-request .ensures)
 
 returns-3 : tie.Need-returns-3
-returns-3 c = let a = c .before .before .before .before .before .before .before .before .args in refused (request-says (a .value .now) (length (a .out .now)) (c .before .before .before .before .before .if1 .left) (request-verdict (a .value .now) (c .before .before .before .verdict-of .ensures) (c .before .before .before .before .read-value .ensures)) (c .before .verdict .given .1))
+returns-3 c =
+    let v = c .before .before .before in
+    let a = v .before .before .before .before .before .args in
+    refused
+    (request-says (a .value .now) (length (a .out .now)) (v .before .before .if1 .left)
+    (request-verdict (a .value .now) (v .verdict-of .ensures) (v .before .read-value .ensures)) (c .before .verdict .given .1))
 
 pub request-spec : {M : Type 1} → statement M
 request-spec =

@@ -1,5 +1,5 @@
 -- The place is within the bytes and grows by a record, and what waits lies in the output.
-use Prim.Native.Nat.{_+_, _≤_, _-_}
+use Prim.Native.Nat.{_≤_, _-_}
 use mathlib.Core.Path.{_≡_, _∙_}
 use native.Mathlib.Omega.{arith}
 use lib.ListN.{length}
@@ -73,8 +73,13 @@ loop-again-2 : tie.Need-loop-again-2 Inv-loop μ-loop
 loop-again-2 c =
     let k = c .before .before .before .before .before .state-record in
     let w = c .before .before .before .before .before .before .before .before .before .before .before .before .with-room in
-    let i = c .before .before .before .before .before .before .before .before .before .before .before .before .before .before .before .before .before .before .loop .inv in
-    (omega (arith, c .before .before .before .before .before .before .before .before .before .before .before .before .before .before .before .before .record-size .ensures), k .ensures, omega (arith, k .kept .1 .1 .1 .1 .0, w .kept .1 .0, i .2), k .kept .1 .1 .1 .1 .0 ∙ w .kept .1 .0 ∙ i .3)
+    let n = c .before .before .before .before .before .before .before .before .before .before .before .before .before .before .before .before in
+    let i = n .before .before .loop .inv in (
+      omega (arith, n .record-size .ensures),
+      k .ensures,
+      omega (arith, k .kept .1 .1 .1 .1 .0, w .kept .1 .0, i .2),
+      k .kept .1 .1 .1 .1 .0 ∙ w .kept .1 .0 ∙ i .3,
+    )
 
 same-length : tie.Need-same-length Inv-loop μ-loop
 same-length c = search needs

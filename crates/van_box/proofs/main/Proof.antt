@@ -1,6 +1,5 @@
 -- What is held fits the input; the measure is the number of turns that are left.
 use Prim.Native.Nat.{_≤_}
-use native.Mathlib.Omega.{arith}
 use Rattle.van_box.specs.Sizes.{inputRoom}
 use borrow.Author.Needs.{needs}
 use Rattle.van_box.proofs.main.Statement.{statement}

@@ -13,7 +13,9 @@ enum-known-outcome : tie.Need-enum-known-outcome
 enum-known-outcome c = search needs
 
 add-end : tie.Need-add-end
-add-end c = let h = c .before .before .before .before .before .pre .0 .value _ _ _ (c .before .outcome .given .1) in omega (arith, h .0)
+add-end c =
+    let h = c .before .before .before .before .before .pre .0 .value _ _ _ (c .before .outcome .given .1) in
+    omega (arith, h .0)
 
 sub-put-bytes : tie.Need-sub-put-bytes
 sub-put-bytes c = search needs
@@ -22,10 +24,15 @@ part-put-bytes-start : tie.Need-part-put-bytes-start
 part-put-bytes-start c = search needs
 
 part-put-bytes-end : tie.Need-part-put-bytes-end
-part-put-bytes-end c = let h = c .before .before .before .before .before .before .pre .0 .value _ _ _ (c .before .before .outcome .given .1) in omega (arith, h .0)
+part-put-bytes-end c =
+    let h = c .before .before .before .before .before .before .pre .0 .value _ _ _ (c .before .before .outcome .given .1) in
+    omega (arith, h .0)
 
 put-bytes-requires : tie.Need-put-bytes-requires
-put-bytes-requires c κs = let h = c .before .before .before .before .before .before .before .pre .0 .value _ _ _ (c .before .before .before .outcome .given .1) in part-room (c .before .before .before .before .before .before .before .args .bytes .now) _ _ (length (c .before .before .before .before .before .before .before .args .out .now)) (h .1) (c .before .before .before .before .before .before .before .pre .1)
+put-bytes-requires c κs =
+    let s = c .before .before .before .before .before .before .before in
+    let h = s .pre .0 .value _ _ _ (c .before .before .before .outcome .given .1) in
+    part-room (s .args .bytes .now) _ _ (length (s .args .out .now)) (h .1) (s .pre .1)
 
 enum-told : tie.Need-enum-told
 enum-told c = search needs
@@ -34,7 +41,9 @@ enum-told-2 : tie.Need-enum-told-2
 enum-told-2 c = search needs
 
 put-entries-requires : tie.Need-put-entries-requires
-put-entries-requires c κs = (c .before .before .before .before .before .pre .0 .entries _ (c .before .enum-told2 .given .1), c .before .before .before .before .before .pre .1)
+put-entries-requires c κs =
+    let s = c .before .before .before .before .before in
+    (s .pre .0 .entries _ (c .before .enum-told2 .given .1), s .pre .1)
 
 enum-told-3 : tie.Need-enum-told-3
 enum-told-3 c = search needs
@@ -49,25 +58,40 @@ same-length : tie.Need-same-length
 same-length c = search needs
 
 returns : tie.Need-returns
-returns c = let a = c .before .before .before .before .before .before .before .before .before .before .args in hands-value (a .bytes .now) _ _ (a .list) (c .before .before .before .before .before .before .outcome .given .1) (c .before .before .put-bytes .ensures)
+returns c =
+    let a = c .before .before .before .before .before .before .before .before .before .before .args in
+    hands-value (a .bytes .now) _ _ (a .list) (c .before .before .before .before .before .before .outcome .given .1) (c .before .before .put-bytes .ensures)
 
 returns-2 : tie.Need-returns-2
-returns-2 c = let a = c .before .before .before .before .args in hands-none (a .bytes .now) (a .list) (a .outcome) (ap outcomeVerdict (c .enum-told .given .1)) (ap (handedBack (a .bytes .now) (a .list)) (c .enum-told .given .1))
+returns-2 c =
+    let a = c .before .before .before .before .args in
+    let e = c .enum-told .given .1 in
+    hands-none (a .bytes .now) (a .list) (a .outcome) (ap outcomeVerdict e) (ap (handedBack (a .bytes .now) (a .list)) e)
 
 same-length-2 : tie.Need-same-length-2
 same-length-2 c = search needs
 
 returns-3 : tie.Need-returns-3
-returns-3 c = let a = c .before .before .before .before .before .before .before .before .args in hands-entries (a .bytes .now) (a .list) (a .outcome) (c .before .before .before .before .enum-told2 .given .1) (c .before .before .put-entries .ensures)
+returns-3 c =
+    let a = c .before .before .before .before .before .before .before .before .args in
+    hands-entries (a .bytes .now) (a .list) (a .outcome) (c .before .before .before .before .enum-told2 .given .1) (c .before .before .put-entries .ensures)
 
 returns-4 : tie.Need-returns-4
-returns-4 c = let a = c .before .before .before .before .args in hands-none (a .bytes .now) (a .list) (a .outcome) (ap outcomeVerdict (c .enum-told3 .given .1)) (ap (handedBack (a .bytes .now) (a .list)) (c .enum-told3 .given .1))
+returns-4 c =
+    let a = c .before .before .before .before .args in
+    let e = c .enum-told3 .given .1 in
+    hands-none (a .bytes .now) (a .list) (a .outcome) (ap outcomeVerdict e) (ap (handedBack (a .bytes .now) (a .list)) e)
 
 returns-5 : tie.Need-returns-5
-returns-5 c = let a = c .before .before .before .before .args in hands-none (a .bytes .now) (a .list) (a .outcome) (ap outcomeVerdict (c .enum-told4 .given .1)) (ap (handedBack (a .bytes .now) (a .list)) (c .enum-told4 .given .1))
+returns-5 c =
+    let a = c .before .before .before .before .args in
+    let e = c .enum-told4 .given .1 in
+    hands-none (a .bytes .now) (a .list) (a .outcome) (ap outcomeVerdict e) (ap (handedBack (a .bytes .now) (a .list)) e)
 
 returns-6 : tie.Need-returns-6
-returns-6 c = let a = c .before .before .before .before .before .args in hands-refusal (a .bytes .now) (a .list) (a .outcome) (c .before .outcome2 .given .1)
+returns-6 c =
+    let a = c .before .before .before .before .before .args in
+    hands-refusal (a .bytes .now) (a .list) (a .outcome) (c .before .outcome2 .given .1)
 
 pub hand-back-spec : {M : Type 1} → statement M
 hand-back-spec =

@@ -1,12 +1,18 @@
 -- Behind the type stands the shortest form of the length, and behind that the entries (`part-value`).
 use native.Mathlib.Omega.{arith}
-use mathlib.Core.Path.{sym, ap, _∙_}
+use mathlib.Core.Path.{ap}
 use lib.ListN.{length}
 use Rattle.output.proofs.Placing.{put-as}
 use Rattle.records.proofs.EntriesPart as Part
 use borrow.Author.Needs.{needs}
 use Rattle.records.proofs.stream.put_entries.Statement.{statement}
 use Rattle.records.proofs.stream.put_entries.Tie as tie
+
+-- the capsule in the scratch array
+part : (c : tie.After-length) → Part.Behind (c .before .before .before .before .before .args .list .words) (c .before .before .write-request .last .1 .0) (c .length .result)
+part c =
+    let s = c .before .before .before .before .before in
+    Part.behind (s .args .list .words) (s .pre .0) (c .before .before .write-request .ensures) (omega arith) (c .length .ensures)
 
 slice-aggregate-write-request : tie.Need-slice-aggregate-write-request
 slice-aggregate-write-request c = search needs
@@ -18,13 +24,16 @@ length-requires : tie.Need-length-requires
 length-requires c κs = search needs
 
 sub-read : tie.Need-sub-read
-sub-read c = omega (arith, Part.part-within (c .before .before .before .before .before .args .list .words) (c .before .before .before .before .before .pre .0) (c .before .before .write-request .ensures) (omega arith) (c .length .ensures) .0)
+sub-read c =
+    omega (arith, part c .count)
 
 part-read-start : tie.Need-part-read-start
-part-read-start c = omega (arith, Part.part-within (c .before .before .before .before .before .before .args .list .words) (c .before .before .before .before .before .before .pre .0) (c .before .before .before .write-request .ensures) (omega arith) (c .before .length .ensures) .0)
+part-read-start c =
+    omega (arith, part (c .before) .count)
 
 part-read-end : tie.Need-part-read-end
-part-read-end c = omega (arith, Part.part-within (c .before .before .before .before .before .before .args .list .words) (c .before .before .before .before .before .before .pre .0) (c .before .before .before .write-request .ensures) (omega arith) (c .before .length .ensures) .1)
+part-read-end c =
+    omega (arith, part (c .before) .within)
 
 read-requires : tie.Need-read-requires
 read-requires c κs = search needs
@@ -33,19 +42,29 @@ enum-known-size : tie.Need-enum-known-size
 enum-known-size c = search needs
 
 add-start : tie.Need-add-start
-add-start c = let e = Part.part-size (c .before .before .before .before .before .before .before .before .before .before .before .args .list .words) (c .before .before .before .before .before .before .before .before .before .before .before .pre .0) (c .before .before .before .before .before .before .before .before .write-request .ensures) (omega arith) (c .before .before .before .before .before .before .length .ensures) (c .before .before .before .read .ensures) (c .before .size .given .1) in omega (arith, e, Part.part-bounds (c .before .before .before .before .before .before .before .before .before .before .before .args .list .words))
+add-start c =
+    let e = Part.read-size (part (c .before .before .before .before .before .before)) (c .before .before .before .read .ensures) (c .before .size .given .1) in
+    omega (arith, e, Part.size-most (c .before .before .before .before .before .before .before .before .before .before .before .args .list .words))
 
 sub-put-bytes : tie.Need-sub-put-bytes
-sub-put-bytes c = let e = Part.part-size (c .before .before .before .before .before .before .before .before .before .before .before .before .args .list .words) (c .before .before .before .before .before .before .before .before .before .before .before .before .pre .0) (c .before .before .before .before .before .before .before .before .before .write-request .ensures) (omega arith) (c .before .before .before .before .before .before .before .length .ensures) (c .before .before .before .before .read .ensures) (c .before .before .size .given .1) in omega (arith, e, Part.part-count (c .before .before .before .before .before .before .before .before .before .before .before .before .args .list .words) (c .before .before .before .before .before .before .before .before .before .before .before .before .pre .0) (c .before .before .before .before .before .before .before .before .before .write-request .ensures) (omega arith) (c .before .before .before .before .before .before .before .length .ensures))
+sub-put-bytes c =
+    let p = part (c .before .before .before .before .before .before .before) in
+    omega (arith, Part.read-size p (c .before .before .before .before .read .ensures) (c .before .before .size .given .1), p .count)
 
 part-put-bytes-start : tie.Need-part-put-bytes-start
-part-put-bytes-start c = let e = Part.part-size (c .before .before .before .before .before .before .before .before .before .before .before .before .before .args .list .words) (c .before .before .before .before .before .before .before .before .before .before .before .before .before .pre .0) (c .before .before .before .before .before .before .before .before .before .before .write-request .ensures) (omega arith) (c .before .before .before .before .before .before .before .before .length .ensures) (c .before .before .before .before .before .read .ensures) (c .before .before .before .size .given .1) in omega (arith, e, Part.part-count (c .before .before .before .before .before .before .before .before .before .before .before .before .before .args .list .words) (c .before .before .before .before .before .before .before .before .before .before .before .before .before .pre .0) (c .before .before .before .before .before .before .before .before .before .before .write-request .ensures) (omega arith) (c .before .before .before .before .before .before .before .before .length .ensures))
+part-put-bytes-start c =
+    let p = part (c .before .before .before .before .before .before .before .before) in
+    omega (arith, Part.read-size p (c .before .before .before .before .before .read .ensures) (c .before .before .before .size .given .1), p .count)
 
 part-put-bytes-end : tie.Need-part-put-bytes-end
-part-put-bytes-end c = omega (arith, Part.part-within (c .before .before .before .before .before .before .before .before .before .before .before .before .before .args .list .words) (c .before .before .before .before .before .before .before .before .before .before .before .before .before .pre .0) (c .before .before .before .before .before .before .before .before .before .before .write-request .ensures) (omega arith) (c .before .before .before .before .before .before .before .before .length .ensures) .1)
+part-put-bytes-end c =
+    omega (arith, part (c .before .before .before .before .before .before .before .before) .within)
 
 put-bytes-requires : tie.Need-put-bytes-requires
-put-bytes-requires c κs = let e = Part.part-size (c .before .before .before .before .before .before .before .before .before .before .before .before .before .before .args .list .words) (c .before .before .before .before .before .before .before .before .before .before .before .before .before .before .pre .0) (c .before .before .before .before .before .before .before .before .before .before .before .write-request .ensures) (omega arith) (c .before .before .before .before .before .before .before .before .before .length .ensures) (c .before .before .before .before .before .before .read .ensures) (c .before .before .before .before .size .given .1) in omega (arith, ap length (Part.part-value (c .before .before .before .before .before .before .before .before .before .before .before .before .before .before .args .list .words) (c .before .before .before .before .before .before .before .before .before .before .before .before .before .before .pre .0) (c .before .before .before .before .before .before .before .before .before .before .before .write-request .ensures) (omega arith) (c .before .before .before .before .before .before .before .before .before .length .ensures) e), Part.value-most (c .before .before .before .before .before .before .before .before .before .before .before .before .before .before .args .list .words) (c .before .before .before .before .before .before .before .before .before .before .before .before .before .before .pre .0) (c .before .before .before .before .before .before .before .before .before .before .before .write-request .ensures) (omega arith) (c .before .before .before .before .before .before .before .before .before .length .ensures), c .before .before .before .before .before .before .before .before .before .before .before .before .before .before .pre .1)
+put-bytes-requires c κs =
+    let p = part (c .before .before .before .before .before .before .before .before .before) in
+    let v = Part.value-at p (Part.read-size p (c .before .before .before .before .before .before .read .ensures) (c .before .before .before .before .size .given .1)) in
+    omega (arith, ap length v, p .most, c .before .before .before .before .before .before .before .before .before .before .before .before .before .before .pre .1)
 
 enum-told : tie.Need-enum-told
 enum-told c = search needs
@@ -54,10 +73,13 @@ same-length : tie.Need-same-length
 same-length c = search needs
 
 returns : tie.Need-returns
-returns c = let e = Part.part-size (c .before .before .before .before .before .before .before .before .before .before .before .before .before .before .before .before .before .args .list .words) (c .before .before .before .before .before .before .before .before .before .before .before .before .before .before .before .before .before .pre .0) (c .before .before .before .before .before .before .before .before .before .before .before .before .before .before .write-request .ensures) (omega arith) (c .before .before .before .before .before .before .before .before .before .before .before .before .length .ensures) (c .before .before .before .before .before .before .before .before .before .read .ensures) (c .before .before .before .before .before .before .before .size .given .1) in put-as (Part.part-value (c .before .before .before .before .before .before .before .before .before .before .before .before .before .before .before .before .before .args .list .words) (c .before .before .before .before .before .before .before .before .before .before .before .before .before .before .before .before .before .pre .0) (c .before .before .before .before .before .before .before .before .before .before .before .before .before .before .write-request .ensures) (omega arith) (c .before .before .before .before .before .before .before .before .before .before .before .before .length .ensures) e) (c .before .before .put-bytes .ensures)
+returns c =
+    let p = part (c .before .before .before .before .before .before .before .before .before .before .before .before) in
+    put-as (Part.value-at p (Part.read-size p (c .before .before .before .before .before .before .before .before .before .read .ensures) (c .before .before .before .before .before .before .before .size .given .1))) (c .before .before .put-bytes .ensures)
 
 returns-2 : tie.Need-returns-2
-returns-2 c = absurd (Part.part-not-cut (c .before .before .before .before .before .before .before .before .before .before .args .list .words) (c .before .before .before .before .before .before .before .before .before .before .pre .0) (c .before .before .before .before .before .before .before .write-request .ensures) (omega arith) (c .before .before .before .before .before .length .ensures) (c .before .before .read .ensures) (c .enum-told .given .1))
+returns-2 c =
+    absurd (Part.never-cut (part (c .before .before .before .before .before)) (c .before .before .read .ensures) (c .enum-told .given .1))
 
 pub put-entries-spec : {M : Type 1} → statement M
 put-entries-spec =

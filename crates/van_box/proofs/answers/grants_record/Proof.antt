@@ -30,7 +30,10 @@ assign-requires : tie.Need-assign-requires
 assign-requires c κs = search needs
 
 put-answer-requires : tie.Need-put-answer-requires
-put-answer-requires c κs = let s = c .before .before .before .before .before .before .before .before .before .before in answer-room (s .args .out .now) _ (omega (arith, s .pre)) (c .before .before .before .assign .ensures .writes) (c .before .before .before .assign .kept .1 .1 .0)
+put-answer-requires c κs =
+    let s = c .before .before .before .before .before .before .before .before .before .before in
+    let w = c .before .before .before .assign in
+    answer-room (s .args .out .now) _ (omega (arith, s .pre)) (w .ensures .writes) (w .kept .1 .1 .0)
 
 same-length-2 : tie.Need-same-length-2
 same-length-2 c = search needs
@@ -51,7 +54,10 @@ advertise-requires : tie.Need-advertise-requires
 advertise-requires c κs = search needs
 
 put-answer-requires-2 : tie.Need-put-answer-requires-2
-put-answer-requires-2 c κs = let s = c .before .before .before .before .before .before .before .before .before .before in answer-room (s .args .out .now) _ (omega (arith, s .pre)) (c .before .before .before .advertise .ensures .writes) (c .before .before .before .advertise .kept .1 .1 .0)
+put-answer-requires-2 c κs =
+    let s = c .before .before .before .before .before .before .before .before .before .before in
+    let w = c .before .before .before .advertise in
+    answer-room (s .args .out .now) _ (omega (arith, s .pre)) (w .ensures .writes) (w .kept .1 .1 .0)
 
 same-length-3 : tie.Need-same-length-3
 same-length-3 c = search needs

@@ -21,7 +21,10 @@ send-requires : tie.Need-send-requires
 send-requires c κs = search needs
 
 put-answer-requires : tie.Need-put-answer-requires
-put-answer-requires c κs = let s = c .before .before .before .before .before .before .before .before .before in answer-room (s .args .out .now) _ (omega (arith, s .pre)) (c .before .before .before .send .ensures) (c .before .before .before .send .kept .1 .1 .1 .0)
+put-answer-requires c κs =
+    let s = c .before .before .before .before .before .before .before .before .before in
+    let w = c .before .before .before .send in
+    answer-room (s .args .out .now) _ (omega (arith, s .pre)) (w .ensures) (w .kept .1 .1 .1 .0)
 
 same-length : tie.Need-same-length
 same-length c = search needs
@@ -42,7 +45,10 @@ receive-requires : tie.Need-receive-requires
 receive-requires c κs = search needs
 
 put-answer-requires-2 : tie.Need-put-answer-requires-2
-put-answer-requires-2 c κs = let s = c .before .before .before .before .before .before .before .before .before .before in answer-room (s .args .out .now) _ (omega (arith, s .pre)) (c .before .before .before .receive .ensures) (c .before .before .before .receive .kept .1 .1 .1 .0)
+put-answer-requires-2 c κs =
+    let s = c .before .before .before .before .before .before .before .before .before .before in
+    let w = c .before .before .before .receive in
+    answer-room (s .args .out .now) _ (omega (arith, s .pre)) (w .ensures) (w .kept .1 .1 .1 .0)
 
 same-length-2 : tie.Need-same-length-2
 same-length-2 c = search needs
@@ -63,7 +69,10 @@ request-requires : tie.Need-request-requires
 request-requires c κs = search needs
 
 put-answer-requires-3 : tie.Need-put-answer-requires-3
-put-answer-requires-3 c κs = let s = c .before .before .before .before .before .before .before .before .before .before in answer-room (s .args .out .now) _ (omega (arith, s .pre)) (c .before .before .before .request .ensures) (c .before .before .before .request .kept .1 .0)
+put-answer-requires-3 c κs =
+    let s = c .before .before .before .before .before .before .before .before .before .before in
+    let w = c .before .before .before .request in
+    answer-room (s .args .out .now) _ (omega (arith, s .pre)) (w .ensures) (w .kept .1 .0)
 
 same-length-3 : tie.Need-same-length-3
 same-length-3 c = search needs

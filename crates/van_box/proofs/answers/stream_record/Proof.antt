@@ -1,5 +1,5 @@
 -- The place grows with each turn, and what waits lies in the output.
-use Prim.Native.Nat.{_+_, _≤_, _-_}
+use Prim.Native.Nat.{_≤_, _-_}
 use mathlib.Core.Path.{_≡_}
 use native.Mathlib.Omega.{arith}
 use lib.ListN.{length}
@@ -27,7 +27,9 @@ capsule-record-requires-2 : tie.Need-capsule-record-requires-2 Inv-loop μ-loop
 capsule-record-requires-2 c κs = search needs
 
 loop-less : tie.Need-loop-less Inv-loop μ-loop
-loop-less c = omega (arith, c .before .before .before .before .before .before .before .before .before .before .before .loop-test .taken, c .before .before .before .before .before .before .before .before .before .before .if1 .left)
+loop-less c =
+    let i = c .before .before .before .before .before .before .before .before .before .before in
+    omega (arith, i .before .loop-test .taken, i .if1 .left)
 
 loop-again : tie.Need-loop-again Inv-loop μ-loop
 loop-again c = search needs
