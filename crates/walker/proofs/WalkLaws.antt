@@ -1,6 +1,6 @@
 -- Laws of walking: a capsule is handed back and the walk goes on behind it, a refusal leaves the place, and at the end the answer is 1.
 -- So a buffer of written capsules gives each of them in order. Assumes nothing.
-use Prim.Native.Nat.{ℕ, zero, suc, _+_, _≤_}
+use Prim.Native.Nat.{ℕ, suc, _+_, _≤_}
 use mathlib.Core.Path.{_≡_, refl, sym, ap, _∙_}
 use mathlib.Core.List.{List, [], _∷_, _++_, append-assoc, append-nil}
 use native.Mathlib.Omega.{arith}

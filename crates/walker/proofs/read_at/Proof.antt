@@ -1,5 +1,5 @@
--- `walker::read_at` meets its contract: a walk of its MIR, by hand. A `Walker` that one call returns is held in a local and passed to the next. All that the proof knows of `new`, `moved` and `next` is that each meets its contract.
--- A machine value that a call returns is stored and passed on as it is. In a local of a body MIR erases the lifetime of the struct's type, so the value is shown to have the type at `erased`: what the struct owns does not say the lifetime's name.
+-- A walk of the MIR by hand: the walker that one call returns is held in a local and passed to the next. The contracts of `new`, `moved` and `next` are all
+-- that is known of them. In a local MIR erases the lifetime of the struct's type, so a returned value is shown to have the type at `erased`.
 -- Assumes nothing.
 use mathlib.Core.Path.{_≡_, refl, ap, _∙_}
 use Prim.Native.Nat.{ℕ, _<_, _^_}
@@ -14,18 +14,17 @@ use prog.Memory.{Memory}
 use prog.Routine.{Routine}
 use prog.Wp.{Heap, Calls, Loops, WpFn, Tables}
 use ghost.Atoms.{Atoms, sem}
-use contract.Lifetimes.{Lfts}
 use contract.Monad.{Fun, fact}
 use contract.Running.{givenOf, tables, tablesOf}
 use types.Kit.{Given, ‵, raw, _⊛_, ⋆, some, later, _$_, _∵_, !, qed, by, move, drop, use1, use2, split, join, pick, fsplit, fjoin, suffices, frame, await, done}
 use types.Run.{look, init, forget, stop, from, load, and-then, no-more, land, returns, enter, alloc1, alloc0, params1, pass1, pass0, free1, free0}
 use sound.WpLaws.{FmC, fmOf, WpFn-mono}
-use denote.RattleType.{RattleType, owns}
+use denote.RattleType.{owns}
 use denote.Laws.{Is, shows}
 use denote.Plain.{uint-vals, uint-tells, uint-makes}
 use denote.Builtin.{u8, usize}
 use denote.Ref.{RefT, NamedLft, now}
-use denote.Signature.{plain, namedLft}
+use denote.Signature.{plain}
 use denote.Slice.{sliceVal, ShrSlice, slice-vals, shr-slice-tells, shr-slice-lawful, shr-slice-copy}
 use denote.Steps.{owned, peeks, heard, nothing}
 use denote.Struct.Laws as LL
@@ -41,6 +40,7 @@ use Rattle.capsule.specs.declared.CapsuleRead.{CapsuleRead}
 use Rattle.capsule.specs.Results.{readAt}
 use Rattle.walker.specs.Walk.{walkerAt}
 use Rattle.walker.specs.declared.Walker.{Walker}
+use Rattle.walker.proofs.Owned.{B}
 use Rattle.walker.proofs.Walker as T
 use Rattle.walker.proofs.Walker.Laws as T′
 use Rattle.capsule.proofs.CapsuleRead as S
@@ -61,10 +61,6 @@ use Rattle.walker.proofs.read_at.Key.{name as #walker·read-at}
 use Rattle.walker.proofs.read_at as read
 use Rattle.walker.proofs.read_at.Statement as stated
 use Rattle.walker.proofs.read_at.Code as code
-
--- the struct's type, over the signature's lifetimes
-abbrev B : Lfts 1 → RattleType
-B κs = T.the-row (namedLft 1 0 tt κs)
 
 abbrev stayed : Stays (read.ended .signature .params) (read.ended .kept)
 stayed = (stay-none-slice (0 ∷ []) tt (plain (λ _. u8)) yes, (stay-none (λ _. usize) yes, tt))

@@ -1,5 +1,5 @@
--- `walker::Walker::after` meets its contract: a walk of its MIR, by hand. The place is that of `Outcome::next_place`, of which all that the proof knows is that it meets its contract, and a struct is made anew of it and of the slice that the one passed holds.
--- The struct and the outcome are Copy: what they own is had twice. What is passed to the callee is a copy, and the result owns what the struct owns, with the facts of the number in the place of at's.
+-- A walk of the MIR by hand: `Outcome::next_place` gives the place, and its contract is all that is known of it; a walker is made anew of that place and of
+-- the slice that the one passed holds (`Owned`'s `placed`). The callee gets a copy of what the outcome owns.
 -- Assumes nothing.
 use mathlib.Core.Path.{_≡_, refl, ap}
 use Prim.Native.Nat.{ℕ, _<_, _^_}
@@ -15,14 +15,13 @@ use prog.Memory.{Memory}
 use prog.Routine.{Routine}
 use prog.Wp.{Heap, Calls, Loops, WpFn, Tables}
 use ghost.Atoms.{Atoms, sem}
-use contract.Lifetimes.{Lfts}
 use contract.Monad.{Fun, fact}
 use contract.Running.{givenOf, tables, tablesOf}
 use types.Kit.{Given, ‵, raw, _⊛_, some, later, _$_, _∵_, !, qed, by, move, drop, use1, use2, split, join, rewrite, pick, fsplit, fjoin, suffices, frame, await, done}
 use types.Part.{whole, sub, look-in, agg}
 use types.Run.{look, init, forget, stop, fld, from, load, of-opd, and-then, no-more, assigns, land, returns, enter, alloc1, alloc0, params1, pass1, pass0, free1, free0}
 use sound.WpLaws.{FmC, fmOf, WpFn-mono}
-use denote.RattleType.{RattleType, owns}
+use denote.RattleType.{owns}
 use denote.Laws.{Is, shows}
 use denote.Plain.{uint-makes, uint-lawful}
 use denote.Builtin.{usize}
@@ -30,7 +29,6 @@ use denote.Signature.{namedLft}
 use denote.Steps.{only, owned, peeks, heard, nothing}
 use denote.Enum.Laws as EL
 use denote.Struct.Laws as LL
-use denote.Struct.Rest.{own-put}
 use denote.Triple.Statement.{Contract, Triple}
 use denote.Triple.Call.{calls-at}
 use denote.Triple.Entry.{Vals, onEntry}
@@ -45,6 +43,7 @@ use Rattle.walker.specs.Walk.{walkerAt}
 use Rattle.walker.specs.declared.Walker.{Walker}
 use Rattle.walker.proofs.Walker as T
 use Rattle.walker.proofs.Walker.Laws as T′
+use Rattle.walker.proofs.Owned.{B, Own, placed}
 use Rattle.capsule.proofs.Outcome as O
 use Rattle.capsule.proofs.Outcome.Laws as O′
 use Rattle.capsule.proofs.Outcome.next_place as callee
@@ -55,10 +54,6 @@ use Rattle.walker.proofs.Walker.after.Key.{name as #walker·after}
 use Rattle.walker.proofs.Walker.after as after
 use Rattle.walker.proofs.Walker.after.Statement as stated
 use Rattle.walker.proofs.Walker.after.Code as code
-
--- the struct's type, over the signature's lifetimes
-abbrev B : Lfts 1 → RattleType
-B κs = T.the-row (namedLft 1 0 tt κs)
 
 abbrev stayed : Stays (after.ended .signature .params) (after.ended .kept)
 stayed = (stay-none B yes, (stay-none (λ _. O.the-row) yes, tt))
@@ -86,9 +81,6 @@ module _ {M : Type 1} (𝓤 : URA M) (H : Heap 𝓤) (A : Atoms 𝓤) (W : Given
 
   abbrev Entry : SProp 𝓤
   Entry = onEntry 𝓤 H A after.signature (κ, tt) (q, tt) (d, (o, tt)) at
-
-  abbrev Own : Fml
-  Own = B (κ, tt) .own d (mach ∷ [])
 
   abbrev OwnO : Fml
   OwnO = O.the-row .own o (machO ∷ [])
@@ -128,9 +120,7 @@ module _ {M : Type 1} (𝓤 : URA M) (H : Heap 𝓤) (A : Atoms 𝓤) (W : Given
   exits n e fits =
       qed W ((‵ (flft κ q) ⊛ ‵ ftrue) ∷ ‵ (owns (B (κ, tt) ∷ O.the-row ∷ []) (d, (o, tt)) at) ∷ []) ∵
       suffices ! _ (ends-at 𝓤 H A after.ended stayed (after.clauses 𝓤 H A mem run) W (((κ, tt), (q, tt), tt, (d, (o, tt)), at), tt) (T′.lowered (d′ n)) (d′ n) (tt, (tt, tt)) (tt, (tt, tt))) $ says ! (ap (walkerAt (d .bytes)) e) $
-      frame ! $ fsplit ! $ use1 W (‵ Own ⊛ ‵ Own) (LL.copy (T.the-type (namedLft 1 0 tt (κ, tt))) (T′.the-copy (namedLft 1 0 tt (κ, tt))) 𝓤 H A W .twice d (mach ∷ [])) $ split ! $ move ! (0 ∷ 2 ∷ []) $ fjoin ! $ frame ! $
-      -- [what the struct owns]: the number's facts take the place of at's
-      owned ! usize (Is usize) (uint-makes 𝓤 H A W w64) n _ (refl, fits) $ move ! (1 ∷ 0 ∷ []) $ by ! (own-put 𝓤 H A W (T.the-type (namedLft 1 0 tt (κ, tt))) (T′.the-laws (namedLft 1 0 tt (κ, tt))) 1 (d .bytes, (d .at, tt)) n mach)
+      frame ! $ fsplit ! $ use1 W (‵ (Own κ d) ⊛ ‵ (B (κ, tt) .own (d′ n) (T′.lowered (d′ n) ∷ []))) (placed κ d 𝓤 H A W n fits) $ split ! $ move ! (0 ∷ 2 ∷ []) $ fjoin ! $ frame ! $ done !
 
   module _ (C : Calls 𝓤 H) (Λ : Loops 𝓤 H) (fm : FmC 𝓤 H (W .laws) C) (known : Triple 𝓤 (C #capsule·next-place) (NextPlace 𝓤 H A mem run)) where
     walk : Holds (hasTy (T′.mir (named 0)) mach) × WT mach → Holds (hasTy O′.mir machO) × WT machO → ent 𝓤 Entry (WpFn 𝓤 H C Λ code.function (mach ∷ machO ∷ []) Post)

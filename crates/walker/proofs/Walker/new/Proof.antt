@@ -1,5 +1,5 @@
--- `walker::Walker::new` meets its contract: a walk of its MIR, by hand. A `Walker` is made of the slice passed and 0, in the result's local.
--- A `&[u8]` is Copy, so what it owns is had twice: once for bytes at exit, and once inside the result, beside the facts of at.
+-- A walk of the MIR by hand: a walker is made of the slice passed and 0, in the result's local.
+-- A `&[u8]` is Copy, so what it owns is had twice: once for the parameter at exit, and once inside the result, beside the facts of the place.
 -- Assumes nothing.
 use mathlib.Core.Path.{refl}
 use Prim.Native.Nat.{ℕ}
