@@ -1,0 +1,30 @@
+-- A lent plan as a plan: its templates, segments and static bytes are those that the words say. Assumes nothing.
+use Prim.Native.Nat.{ℕ, zero, suc, _<_}
+use mathlib.Core.Path.{_≡_, refl}
+use mathlib.Core.List.{List}
+use native.Mathlib.Omega.{arith}
+use lib.ListN.{getD}
+use Rattle.octets.specs.Scan.{from}
+use Rattle.octets.proofs.Scans.{from-suc}
+use Rattle.plan.specs.Rules.{maxTemplates, maxSegments, staticLimit}
+use Rattle.plan.specs.Shapes.{noSegment, noTemplate, segmentAt, templateAt}
+use Rattle.lent_plan.specs.Lent.{lentHead, lentSegment, lentByte, lentTemplate, lentCount, lentPlan}
+
+-- an element of a list that is given by its indices
+pub getD-from : {A : Type 0} (f : ℕ → A) (d : A) (n i : ℕ) → i < n → getD (from f 0 n) i d ≡ f i
+getD-from f d zero i h = absurd (omega (arith, h))
+getD-from f d (suc n) zero h = refl
+getD-from f d (suc n) (suc i) h = rw (from-suc f 0 n) (getD-from (λ k. f (suc k)) d n i (omega arith))
+
+module _ (w : List ℕ) where
+  pub template-lent : (i : ℕ) → i < maxTemplates → templateAt (lentPlan w) i ≡ lentTemplate w i
+  unfolding lentPlan
+  template-lent i h = getD-from (lentTemplate w) noTemplate maxTemplates i h
+
+  pub segment-lent : (i j : ℕ) → j < maxSegments → segmentAt (lentTemplate w i) j ≡ lentSegment w i j
+  unfolding lentTemplate
+  segment-lent i j h = getD-from (lentSegment w i) noSegment maxSegments j h
+
+  pub byte-lent : (i p : ℕ) → p < staticLimit → getD (lentTemplate w i .bytes) p 0 ≡ lentByte w i p
+  unfolding lentTemplate
+  byte-lent i p h = getD-from (lentByte w i) 0 staticLimit p h
