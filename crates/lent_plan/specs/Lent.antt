@@ -22,16 +22,6 @@ planWords = 1193
 abbrev pub wordOf : List ℕ → ℕ → ℕ → ℕ
 wordOf w i k = getD w (i * templateWords + k) 0
 
-unfoldable pub lentHead : List ℕ → ℕ → Head
-lentHead w i =
-    record {
-      id = record { 0 = wordOf w i 1 };
-      count = wordOf w i 2;
-      checksum = not (eqb (wordOf w i 3) 0);
-      field = wordOf w i 4;
-      start = wordOf w i 5;
-    }
-
 unfoldable pub lentSegment : List ℕ → ℕ → ℕ → Segment
 lentSegment w i j =
     record { offset = getD w (i * templateWords + j * 2 + 6) 0; length = getD w (i * templateWords + j * 2 + 7) 0 }
@@ -39,17 +29,21 @@ lentSegment w i j =
 unfoldable pub lentByte : List ℕ → ℕ → ℕ → ℕ
 lentByte w i p = getD w (i * templateWords + p + 22) 0 % 256
 
+-- what a template says beside its segments and static bytes
+abbrev pub headOf : Template → Head
+headOf t = record { id = t .id; count = t .count; checksum = t .checksum; field = t .field; start = t .start }
+
 -- template i
 unfoldable pub lentTemplate : List ℕ → ℕ → Template
 lentTemplate w i =
     record {
-      id = lentHead w i .id;
-      count = lentHead w i .count;
+      id = record { 0 = wordOf w i 1 };
+      count = wordOf w i 2;
       segments = from (lentSegment w i) 0 maxSegments;
       bytes = from (lentByte w i) 0 staticLimit;
-      checksum = lentHead w i .checksum;
-      field = lentHead w i .field;
-      start = lentHead w i .start;
+      checksum = not (eqb (wordOf w i 3) 0);
+      field = wordOf w i 4;
+      start = wordOf w i 5;
     }
 
 abbrev pub lentCount : List ℕ → ℕ

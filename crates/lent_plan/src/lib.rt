@@ -5,8 +5,10 @@ use plan::ContextId;
 use plan::Segment;
 ghost use mathlib.Core.Path.{_≡_};
 ghost use Prim.Native.Nat.{_<_};
+ghost use lib.ListN.{getD};
 ghost use Rattle.plan.specs.Rules.{maxTemplates, maxSegments, staticLimit};
-ghost use Rattle.lent_plan.specs.Lent.{lentHead, lentSegment, lentByte};
+ghost use Rattle.plan.specs.Shapes.{segmentAt, templateAt};
+ghost use Rattle.lent_plan.specs.Lent.{headOf, lentPlan};
 
 // The words of a template, and of a plan.
 pub const TEMPLATE_WORDS: usize = 149;
@@ -25,7 +27,7 @@ pub struct Head {
 // The head of template i: words 1 to 5.
 pub fn head_at(w: &[u64; PLAN_WORDS], i: usize) -> Head
     requires { ⌜ i < maxTemplates ⌝ }
-    ensures { λ r. ⌜ r ≡ lentHead (now (w .entry)) i ⌝ }
+    ensures { λ r. ⌜ r ≡ headOf (templateAt (lentPlan (now (w .entry))) i) ⌝ }
 {
     let b = i * TEMPLATE_WORDS;
     let id = ContextId(w[b + 1]);
@@ -46,7 +48,7 @@ pub fn head_at(w: &[u64; PLAN_WORDS], i: usize) -> Head
 pub fn segment_at(w: &[u64; PLAN_WORDS], i: usize, j: usize) -> Segment
     requires { ⌜ i < maxTemplates ⌝ }
     requires { ⌜ j < maxSegments ⌝ }
-    ensures { λ r. ⌜ r ≡ lentSegment (now (w .entry)) i j ⌝ }
+    ensures { λ r. ⌜ r ≡ segmentAt (templateAt (lentPlan (now (w .entry))) i) j ⌝ }
 {
     let b = i * TEMPLATE_WORDS + j * 2;
     let offset = w[b + 6] as usize;
@@ -58,7 +60,7 @@ pub fn segment_at(w: &[u64; PLAN_WORDS], i: usize, j: usize) -> Segment
 pub fn byte_at(w: &[u64; PLAN_WORDS], i: usize, p: usize) -> u8
     requires { ⌜ i < maxTemplates ⌝ }
     requires { ⌜ p < staticLimit ⌝ }
-    ensures { λ r. ⌜ r ≡ lentByte (now (w .entry)) i p ⌝ }
+    ensures { λ r. ⌜ r ≡ getD (templateAt (lentPlan (now (w .entry))) i .bytes) p 0 ⌝ }
 {
     let b = i * TEMPLATE_WORDS + p;
     (w[b + 22] % 256) as u8

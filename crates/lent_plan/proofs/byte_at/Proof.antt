@@ -1,6 +1,7 @@
--- Each index is below 1193, and the words are those that `lentByte` reads.
-use mathlib.Core.Path.{refl}
+-- Each index is below 1193, and the words are those that the template of the lent plan has.
+use mathlib.Core.Path.{sym}
 use Rattle.lent_plan.specs.Lent.{lentByte}
+use Rattle.lent_plan.proofs.Views.{byte-lent}
 use borrow.Author.Needs.{needs}
 use Rattle.lent_plan.proofs.byte_at.Statement.{statement}
 use Rattle.lent_plan.proofs.byte_at.Tie as tie
@@ -25,7 +26,7 @@ cast-result c = search needs
 
 returns : tie.Need-returns
 unfolding lentByte
-returns c = refl
+returns c = sym (byte-lent (c .before .args .w .now) (c .before .args .i) (c .before .args .p) (c .before .pre .0) (c .before .pre .1))
 
 pub byte-at-spec : {M : Type 1} → statement M
 byte-at-spec =

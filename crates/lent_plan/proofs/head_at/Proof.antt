@@ -1,6 +1,7 @@
--- Each index is below 1193, and the words are those that `lentHead` reads.
-use mathlib.Core.Path.{refl}
-use Rattle.lent_plan.specs.Lent.{lentHead}
+-- Each index is below 1193, and the words are those that the template of the lent plan has.
+use mathlib.Core.Path.{ap, sym}
+use Rattle.lent_plan.specs.Lent.{headOf, lentTemplate}
+use Rattle.lent_plan.proofs.Views.{template-lent}
 use borrow.Author.Needs.{needs}
 use Rattle.lent_plan.proofs.head_at.Statement.{statement}
 use Rattle.lent_plan.proofs.head_at.Tie as tie
@@ -54,8 +55,10 @@ element-copy-out-start : tie.Need-element-copy-out-start
 element-copy-out-start c = search needs
 
 returns : tie.Need-returns
-unfolding lentHead
-returns c = refl
+unfolding lentTemplate
+returns c =
+    let a = c .before .before .before .before .before in
+    ap headOf (sym (template-lent (a .args .w .now) (a .args .i) (a .pre)))
 
 pub head-at-spec : {M : Type 1} → statement M
 head-at-spec =

@@ -1,6 +1,7 @@
--- Each index is below 1193, and the words are those that `lentSegment` reads.
-use mathlib.Core.Path.{refl}
+-- Each index is below 1193, and the words are those that the template of the lent plan has.
+use mathlib.Core.Path.{sym}
 use Rattle.lent_plan.specs.Lent.{lentSegment}
+use Rattle.lent_plan.proofs.Views.{segment-lent}
 use borrow.Author.Needs.{needs}
 use Rattle.lent_plan.proofs.segment_at.Statement.{statement}
 use Rattle.lent_plan.proofs.segment_at.Tie as tie
@@ -34,7 +35,7 @@ element-copy-out-length c = search needs
 
 returns : tie.Need-returns
 unfolding lentSegment
-returns c = refl
+returns c = sym (segment-lent (c .before .before .args .w .now) (c .before .before .args .i) (c .before .before .args .j) (c .before .before .pre .0) (c .before .before .pre .1))
 
 pub segment-at-spec : {M : Type 1} → statement M
 segment-at-spec =
