@@ -31,7 +31,7 @@ pub enum OpenRead {
 }
 
 // Writes the packet that a datagram stands for to the front of out.
-pub fn receive(grants: Grants, plan: &[u64; PLAN_WORDS], datagram: &[u8], out: &mut [u8]) -> Answer
+pub fn receive<'a>(grants: Grants, plan: &'a [u64; PLAN_WORDS], datagram: &'a [u8], out: &mut [u8]) -> Answer
     ensures { λ r. ⌜ Writes (receiveVerdict grants (lentPlan (now (plan .entry))) (now (datagram .entry)) (length (now (out .entry)))) (receivedBytes (lentPlan (now (plan .entry))) (now (datagram .entry))) (now (out .entry)) r (now (out .exit)) ⌝ }
 {
     let received_addresses = grants.received_addresses;
