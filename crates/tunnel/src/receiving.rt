@@ -31,7 +31,12 @@ pub enum OpenRead {
 }
 
 // Writes the packet that a datagram stands for to the front of out.
-pub fn receive<'a>(grants: Grants, plan: &'a [u64; PLAN_WORDS], datagram: &'a [u8], out: &mut [u8]) -> Answer
+pub fn receive<'a>(
+    grants: Grants,
+    plan: &'a [u64; PLAN_WORDS],
+    datagram: &'a [u8],
+    out: &mut [u8],
+) -> Answer
     ensures { λ r. ⌜ Writes (receiveVerdict grants (lentPlan (now (plan .entry))) (now (datagram .entry)) (length (now (out .entry)))) (receivedBytes (lentPlan (now (plan .entry))) (now (datagram .entry))) (now (out .entry)) r (now (out .exit)) ⌝ }
 {
     let received_addresses = grants.received_addresses;
@@ -145,7 +150,12 @@ fn open_full(body: &[u8], image: &mut [u8; MAX_PACKET]) -> OpenRead
 }
 
 // Another Context ID is that of a template.
-fn open_short(plan: &[u64; PLAN_WORDS], id: ContextId, body: &[u8], image: &mut [u8; MAX_PACKET]) -> OpenRead
+fn open_short(
+    plan: &[u64; PLAN_WORDS],
+    id: ContextId,
+    body: &[u8],
+    image: &mut [u8; MAX_PACKET],
+) -> OpenRead
     requires { ⌜ Usable (lentPlan (now plan)) ⌝ }
     ensures { λ r. ⌜ Opens (openShort (now (body .entry)) (withId (id .0) (shapesOf (lentPlan (now (plan .entry)))))) r (now (image .exit)) ⌝ }
 {
@@ -157,7 +167,12 @@ fn open_short(plan: &[u64; PLAN_WORDS], id: ContextId, body: &[u8], image: &mut 
 }
 
 // The bytes behind the Context ID of template i.
-fn open_by(plan: &[u64; PLAN_WORDS], i: usize, body: &[u8], image: &mut [u8; MAX_PACKET]) -> OpenRead
+fn open_by(
+    plan: &[u64; PLAN_WORDS],
+    i: usize,
+    body: &[u8],
+    image: &mut [u8; MAX_PACKET],
+) -> OpenRead
     requires { ⌜ i < maxTemplates ⌝ }
     requires { ⌜ UsableTemplate (templateAt (lentPlan (now plan)) i) ⌝ }
     ensures { λ r. ⌜ Opens (openShort (now (body .entry)) (short (shapeOf (templateAt (lentPlan (now (plan .entry))) i)))) r (now (image .exit)) ⌝ }

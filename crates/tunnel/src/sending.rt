@@ -32,7 +32,12 @@ ghost use Rattle.tunnel.specs.Tunnel.{grantsOf, sendVerdict, sentBytes};
 ghost use Rattle.tunnel.specs.Sending.{Sendable, Puttable, Shortable};
 
 // Sends a packet: the datagram goes to the front of out.
-pub fn send<'a>(grants: Grants, plan: &'a [u64; PLAN_WORDS], packet: &'a [u8], out: &mut [u8]) -> Answer
+pub fn send<'a>(
+    grants: Grants,
+    plan: &'a [u64; PLAN_WORDS],
+    packet: &'a [u8],
+    out: &mut [u8],
+) -> Answer
     ensures { λ r. ⌜ Writes (sendVerdict grants (lentPlan (now (plan .entry))) (now (packet .entry)) (length (now (out .entry)))) (sentBytes (lentPlan (now (plan .entry))) (now (packet .entry))) (now (out .entry)) r (now (out .exit)) ⌝ }
 {
     let received_addresses = grants.received_addresses;
