@@ -1,8 +1,11 @@
 // A plan in words that a host owns and lends: no packet pays for a copy of it.
 // Word 0 is the count of templates. Each template has 149 words after it: Context ID, count of segments, a checksum or not, field, start,
 // 8 segments of two words, and an image of a packet's first 128 bytes, a byte in each word. What stands past a count is ignored.
+mod rules; // rules.rt: whether a lent plan keeps its rules
+
 use plan::ContextId;
 use plan::Segment;
+pub use rules::lent_sound;
 ghost use mathlib.Core.Path.{_≡_};
 ghost use Prim.Native.Nat.{_<_};
 ghost use lib.ListN.{getD};
