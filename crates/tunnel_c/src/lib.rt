@@ -1,6 +1,7 @@
 // The box for C and Rust hosts: functions over numbers, byte slices and arrays of words. The host owns the state and lends it; `include/whapirohi.h`
 // has the declarations and what a caller owes. An answer's enum becomes the number that it gives back, with its values beside it.
 mod capsules; // capsules.rt: capsules read and written against the lent lists
+mod packets; // packets.rt: packets sent and received
 
 use answer::Answer;
 use grant::Grants;
