@@ -1,6 +1,7 @@
 -- The words that lend a plan.
 use Prim.Native.Nat.{ℕ, zero, suc}
 use mathlib.Core.Bool.{Bool, true, false}
+use mathlib.Core.Path.{_≡_}
 use mathlib.Core.List.{List, [], _∷_, _++_}
 use lib.ListN.{getD}
 use Rattle.answer.specs.declared.Verdict.{Verdict}
@@ -10,6 +11,7 @@ use Rattle.plan.specs.declared.Template.{Template}
 use Rattle.plan.specs.declared.Plan.{Plan}
 use Rattle.plan.specs.Rules.{maxTemplates, maxSegments, staticLimit}
 use Rattle.plan.specs.Shapes.{noSegment, window, templateAt}
+use Rattle.plan.specs.Results.{readPlan}
 
 -- f i, f (i + 1), ..: n of them, one behind the other
 abbrev pub eachFrom : (ℕ → List ℕ) → ℕ → ℕ → List ℕ
@@ -49,3 +51,8 @@ wordsOf p = p .count ∷ templatesWords p
 abbrev pub loaded : Verdict → List ℕ → List ℕ → List ℕ
 loaded Go words before = words
 loaded (Stop r) words before = before
+
+-- what reading a file answers, and what it leaves in the words
+pub record Loads (file before : List ℕ) (r : Verdict) (after : List ℕ) : Type 0 where
+  pub verdict : r ≡ readPlan file .verdict
+  pub words : after ≡ loaded (readPlan file .verdict) (wordsOf (readPlan file .plan)) before

@@ -1,5 +1,6 @@
-// A plan put into lent words, and taken out of them. Each function that puts words hands back the place behind them.
+// A plan put into lent words. Each function that puts words hands back the place behind them.
 use crate::PLAN_WORDS;
+use answer::Verdict;
 use plan::MAX_SEGMENTS;
 use plan::MAX_TEMPLATES;
 use plan::Plan;
@@ -12,7 +13,23 @@ ghost use Prim.Native.Nat.{_+_, _<_, _≤_};
 ghost use lib.ListN.{length};
 ghost use Rattle.output.specs.Places.{Put};
 ghost use Rattle.lent_plan.specs.Lent.{planWords};
-ghost use Rattle.lent_plan.specs.Words.{headWords, segmentWords, segmentsWords, imageWords, templateWordsOf, templatesWords, wordsOf};
+ghost use Rattle.lent_plan.specs.Words.{headWords, segmentWords, segmentsWords, imageWords, templateWordsOf, templatesWords, wordsOf, Loads};
+
+// Reads a plan file and lends its plan. A refusal leaves w as it was.
+pub fn read_plan(file: &[u8], w: &mut [u64; PLAN_WORDS]) -> Verdict
+    ensures { λ r. ⌜ Loads (now (file .entry)) (now (w .entry)) r (now (w .exit)) ⌝ }
+{
+    let read = plan::read_plan(file);
+    let verdict = read.verdict;
+    match verdict {
+        Verdict::Go => {
+            let plan = read.plan;
+            lend(plan, w);
+            Verdict::Go
+        }
+        Verdict::Stop(why) => Verdict::Stop(why),
+    }
+}
 
 // Lends a plan: w is its words.
 pub fn lend(plan: Plan, w: &mut [u64; PLAN_WORDS])
