@@ -21,10 +21,11 @@ use Rattle.grant.specs.State.{withGivenAddresses, withGivenRoutes}
 use Rattle.exchange.specs.declared.GrantsRead.{GrantsRead}
 use Rattle.exchange.specs.declared.GrantsWritten.{GrantsWritten}
 use Rattle.exchange.specs.Exchange.{readGrants, assignVerdict, advertiseVerdict, stateOf, AssignWritten, AdvertiseWritten}
+use Rattle.lent_plan.specs.Words.{loaded}
 use Rattle.tunnel_c.specs.declared.PlainAnswer.{PlainAnswer}
 use Rattle.tunnel_c.specs.declared.PlainNumber.{PlainNumber}
 use Rattle.tunnel_c.specs.declared.capsules.PlainCapsule.{PlainCapsule}
-use Rattle.tunnel_c.specs.Plain.{plainAnswer, PlainWrites, plainNumber, outcomeKind, valueStart, valueLength, plainCapsule, requestedWords, wordsAfter}
+use Rattle.tunnel_c.specs.Plain.{plainAnswer, PlainWrites, plainNumber, outcomeKind, valueStart, valueLength, plainCapsule, requestedWords}
 
 abbrev answered : ℕ → ℕ → PlainAnswer
 answered n l = record { number = n; length = l }
@@ -80,12 +81,12 @@ capsule-read s at before e f h k =
     )
 
 given-addresses-after : (v : Verdict) (g : Grants) (l : AddressList)
-    → stateOf v (withGivenAddresses g l) g .«given_addresses» .words ≡ wordsAfter v (l .words) (g .«given_addresses» .words)
+    → stateOf v (withGivenAddresses g l) g .«given_addresses» .words ≡ loaded v (l .words) (g .«given_addresses» .words)
 given-addresses-after Go g l = refl
 given-addresses-after (Stop r) g l = refl
 
 given-routes-after : (v : Verdict) (g : Grants) (l : RouteList)
-    → stateOf v (withGivenRoutes g l) g .«given_routes» .words ≡ wordsAfter v (l .words) (g .«given_routes» .words)
+    → stateOf v (withGivenRoutes g l) g .«given_routes» .words ≡ loaded v (l .words) (g .«given_routes» .words)
 given-routes-after Go g l = refl
 given-routes-after (Stop r) g l = refl
 
@@ -94,7 +95,7 @@ pub assign-plain : {g lent : Grants} {l : AddressList} {before after : List ℕ}
     → AssignWritten g l before r after
     → p ≡ plainAnswer (r .answer)
     → PlainWrites (assignVerdict lent l (length before)) (capsuleBytes (assign (entriesOf (l .words)))) before p after
-    × (r .grants .«given_addresses» .words ≡ wordsAfter (assignVerdict lent l (length before)) (l .words) (lent .«given_addresses» .words))
+    × (r .grants .«given_addresses» .words ≡ loaded (assignVerdict lent l (length before)) (l .words) (lent .«given_addresses» .words))
 assign-plain {g} {lent} {l} {before} e h q =
     rw (← e) (
       writes-plain (h .writes) q,
@@ -106,7 +107,7 @@ pub routes-plain : {g lent : Grants} {l : RouteList} {before after : List ℕ} {
     → AdvertiseWritten g l before r after
     → p ≡ plainAnswer (r .answer)
     → PlainWrites (advertiseVerdict lent l (length before)) (capsuleBytes (advertise (rangesOf (l .words)))) before p after
-    × (r .grants .«given_routes» .words ≡ wordsAfter (advertiseVerdict lent l (length before)) (l .words) (lent .«given_routes» .words))
+    × (r .grants .«given_routes» .words ≡ loaded (advertiseVerdict lent l (length before)) (l .words) (lent .«given_routes» .words))
 routes-plain {g} {lent} {l} {before} e h q =
     rw (← e) (
       writes-plain (h .writes) q,

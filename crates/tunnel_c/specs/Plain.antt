@@ -6,7 +6,7 @@ use lib.ListN.{length}
 use Rattle.answer.specs.declared.Answer.{Answer}
 use Rattle.answer.specs.declared.Verdict.{Verdict}
 use Rattle.answer.specs.declared.Verdict.the-variants.{Go, Stop}
-use Rattle.answer.specs.Number.{answerNumber, answerLength}
+use Rattle.answer.specs.Number.{numberOf, answerNumber, answerLength}
 use Rattle.answer.specs.Verdict.{answerOf, outputOf}
 use Rattle.varint.specs.declared.NumberRead.{NumberRead}
 use Rattle.varint.specs.declared.NumberRead.the-variants.{Whole, Cut}
@@ -79,7 +79,7 @@ requestedWords (Advertised next) entries before = before
 requestedWords (Skipped next) entries before = before
 requestedWords (Refused r) entries before = before
 
--- lent words after a call: the new ones where nothing refuses, else as they were
-abbrev pub wordsAfter : Verdict → List ℕ → List ℕ → List ℕ
-wordsAfter Go new before = new
-wordsAfter (Stop r) new before = before
+-- the number of a verdict: 0 is `Go`
+abbrev pub verdictNumber : Verdict → ℕ
+verdictNumber Go = 0
+verdictNumber (Stop r) = numberOf r

@@ -13,9 +13,10 @@ ghost use Rattle.lists.specs.Words.{entriesOf, rangesOf};
 ghost use Rattle.capsule.specs.Capsules.{capsuleBytes, datagram, assign, request, advertise};
 ghost use Rattle.capsule_write.specs.Verdicts.{datagramVerdict, addressVerdict};
 ghost use Rattle.exchange.specs.Exchange.{readGrants, assignVerdict, advertiseVerdict};
+ghost use Rattle.lent_plan.specs.Words.{loaded};
 ghost use Rattle.tunnel.specs.Tunnel.{grantsOf};
 ghost use mathlib.Core.Bool.{true};
-ghost use Rattle.tunnel_c.specs.Plain.{PlainWrites, plainCapsule, requestedWords, wordsAfter};
+ghost use Rattle.tunnel_c.specs.Plain.{PlainWrites, plainCapsule, requestedWords};
 
 // What stood at a place: the kind is its type, or 4 for a type that was skipped; a DATAGRAM's value has a start and a length.
 #[repr(C)]
@@ -157,7 +158,7 @@ pub extern "C" fn whapirohi_write_assign_over<'a>(
     out: &mut [u8],
 ) -> PlainAnswer
     ensures { λ r. ⌜ PlainWrites (assignVerdict (grantsOf (now («received_addresses» .entry)) (now («received_routes» .entry)) (now («given_addresses» .entry)) (now («given_routes» .entry))) (record { words = now (list .entry) }) (length (now (out .entry)))) (capsuleBytes (assign (entriesOf (now (list .entry))))) (now (out .entry)) r (now (out .exit)) ⌝ }
-    ensures { λ _. ⌜ now («given_addresses» .exit) ≡ wordsAfter (assignVerdict (grantsOf (now («received_addresses» .entry)) (now («received_routes» .entry)) (now («given_addresses» .entry)) (now («given_routes» .entry))) (record { words = now (list .entry) }) (length (now (out .entry)))) (now (list .entry)) (now («given_addresses» .entry)) ⌝ }
+    ensures { λ _. ⌜ now («given_addresses» .exit) ≡ loaded (assignVerdict (grantsOf (now («received_addresses» .entry)) (now («received_routes» .entry)) (now («given_addresses» .entry)) (now («given_routes» .entry))) (record { words = now (list .entry) }) (length (now (out .entry)))) (now (list .entry)) (now («given_addresses» .entry)) ⌝ }
 {
     let grants = grants_of(
         received_addresses,
@@ -186,7 +187,7 @@ pub extern "C" fn whapirohi_write_routes_over<'a>(
     out: &mut [u8],
 ) -> PlainAnswer
     ensures { λ r. ⌜ PlainWrites (advertiseVerdict (grantsOf (now («received_addresses» .entry)) (now («received_routes» .entry)) (now («given_addresses» .entry)) (now («given_routes» .entry))) (record { words = now (list .entry) }) (length (now (out .entry)))) (capsuleBytes (advertise (rangesOf (now (list .entry))))) (now (out .entry)) r (now (out .exit)) ⌝ }
-    ensures { λ _. ⌜ now («given_routes» .exit) ≡ wordsAfter (advertiseVerdict (grantsOf (now («received_addresses» .entry)) (now («received_routes» .entry)) (now («given_addresses» .entry)) (now («given_routes» .entry))) (record { words = now (list .entry) }) (length (now (out .entry)))) (now (list .entry)) (now («given_routes» .entry)) ⌝ }
+    ensures { λ _. ⌜ now («given_routes» .exit) ≡ loaded (advertiseVerdict (grantsOf (now («received_addresses» .entry)) (now («received_routes» .entry)) (now («given_addresses» .entry)) (now («given_routes» .entry))) (record { words = now (list .entry) }) (length (now (out .entry)))) (now (list .entry)) (now («given_routes» .entry)) ⌝ }
 {
     let grants = grants_of(
         received_addresses,

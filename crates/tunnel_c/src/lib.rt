@@ -2,6 +2,7 @@
 // has the declarations and what a caller owes. An answer's enum becomes the number that it gives back, with its values beside it.
 mod capsules; // capsules.rt: capsules read and written against the lent lists
 mod packets; // packets.rt: packets sent and received
+mod plans; // plans.rt: the plan loaded and written
 
 use answer::Answer;
 use grant::Grants;
