@@ -21,6 +21,10 @@ use Rattle.grant.specs.State.{withGivenAddresses, withGivenRoutes}
 use Rattle.exchange.specs.declared.GrantsRead.{GrantsRead}
 use Rattle.exchange.specs.declared.GrantsWritten.{GrantsWritten}
 use Rattle.exchange.specs.Exchange.{readGrants, assignVerdict, advertiseVerdict, stateOf, AssignWritten, AdvertiseWritten}
+use Rattle.plan.specs.declared.Plan.{Plan}
+use Rattle.plan.specs.File.{planBytes}
+use Rattle.plan.specs.Rules.{writeVerdict}
+use Rattle.plan.specs.Shapes.{shapesOf}
 use Rattle.lent_plan.specs.Words.{loaded}
 use Rattle.tunnel_c.specs.declared.PlainAnswer.{PlainAnswer}
 use Rattle.tunnel_c.specs.declared.PlainNumber.{PlainNumber}
@@ -113,3 +117,12 @@ routes-plain {g} {lent} {l} {before} e h q =
       writes-plain (h .writes) q,
       ap (λ (x : Grants). x .«given_routes» .words) (h .state) ∙ given-routes-after (advertiseVerdict g l (length before)) g l,
     )
+
+-- ---- plans
+
+pub plan-plain : {p lent : Plan} {before after : List ℕ} {a : Answer} {r : PlainAnswer}
+    → p ≡ lent
+    → Writes (writeVerdict p (length before)) (planBytes (shapesOf p)) before a after
+    → r ≡ plainAnswer a
+    → PlainWrites (writeVerdict lent (length before)) (planBytes (shapesOf lent)) before r after
+plan-plain e h q = rw (← e) (writes-plain h q)
