@@ -1,8 +1,8 @@
 -- The two cases of `Loads`.
 use Rattle.lent_plan.proofs.Loading.{load-go, load-stop}
 use borrow.Author.Needs.{needs}
-use Rattle.lent_plan.proofs.lending.read_plan.Statement.{statement}
-use Rattle.lent_plan.proofs.lending.read_plan.Tie as tie
+use Rattle.lent_plan.proofs.putting.read_plan.Statement.{statement}
+use Rattle.lent_plan.proofs.putting.read_plan.Tie as tie
 
 read-plan-requires : tie.Need-read-plan-requires
 read-plan-requires c κs = search needs

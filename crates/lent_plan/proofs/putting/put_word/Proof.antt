@@ -1,8 +1,8 @@
 -- One store, by `put-set`.
 use Rattle.output.proofs.Placing.{put-set}
 use borrow.Author.Needs.{needs}
-use Rattle.lent_plan.proofs.lending.put_word.Statement.{statement}
-use Rattle.lent_plan.proofs.lending.put_word.Tie as tie
+use Rattle.lent_plan.proofs.putting.put_word.Statement.{statement}
+use Rattle.lent_plan.proofs.putting.put_word.Tie as tie
 
 mul-w : tie.Need-mul-w
 mul-w c = search needs

@@ -7,8 +7,8 @@ use Rattle.plan.specs.Rules.{maxSegments}
 use Rattle.plan.specs.Shapes.{noSegment}
 use Rattle.lent_plan.specs.Words.{segmentWords, segmentsWords}
 use Rattle.lent_plan.proofs.Wording.{length-segment, Writing, write-start, write-next, write-room, write-done}
-use Rattle.lent_plan.proofs.lending.put_segments.Statement.{statement}
-use Rattle.lent_plan.proofs.lending.put_segments.Tie as tie
+use Rattle.lent_plan.proofs.putting.put_segments.Statement.{statement}
+use Rattle.lent_plan.proofs.putting.put_segments.Tie as tie
 
 abbrev Inv-loop : tie.InvT-loop
 Inv-loop w₀ at segments next₀ j₀ w next j = Writing (λ k. segmentWords (getD segments k noSegment)) maxSegments (segmentsWords segments) at w₀ j next w

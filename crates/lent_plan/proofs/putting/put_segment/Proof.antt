@@ -2,8 +2,8 @@
 use Rattle.output.proofs.Placing.{put-then}
 use Rattle.lent_plan.specs.Words.{segmentWords}
 use borrow.Author.Needs.{needs}
-use Rattle.lent_plan.proofs.lending.put_segment.Statement.{statement}
-use Rattle.lent_plan.proofs.lending.put_segment.Tie as tie
+use Rattle.lent_plan.proofs.putting.put_segment.Statement.{statement}
+use Rattle.lent_plan.proofs.putting.put_segment.Tie as tie
 
 put-word-requires : tie.Need-put-word-requires
 put-word-requires c κs = search needs

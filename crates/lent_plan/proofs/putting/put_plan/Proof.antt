@@ -5,8 +5,8 @@ use Rattle.output.proofs.Placing.{put-then}
 use Rattle.lent_plan.specs.Words.{wordsOf}
 use Rattle.lent_plan.proofs.Wording.{length-templates, length-words, put-whole}
 use borrow.Author.Needs.{needs}
-use Rattle.lent_plan.proofs.lending.put_plan.Statement.{statement}
-use Rattle.lent_plan.proofs.lending.put_plan.Tie as tie
+use Rattle.lent_plan.proofs.putting.put_plan.Statement.{statement}
+use Rattle.lent_plan.proofs.putting.put_plan.Tie as tie
 
 put-word-requires : tie.Need-put-word-requires
 put-word-requires c κs = search needs

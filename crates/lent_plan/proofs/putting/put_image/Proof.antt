@@ -7,8 +7,8 @@ use Rattle.plan.specs.Rules.{staticLimit}
 use Rattle.lent_plan.specs.Words.{imageWords}
 use Rattle.lent_plan.proofs.Wording.{each-single, Writing, write-start, write-next, write-room, write-done}
 use borrow.Author.Needs.{needs}
-use Rattle.lent_plan.proofs.lending.put_image.Statement.{statement}
-use Rattle.lent_plan.proofs.lending.put_image.Tie as tie
+use Rattle.lent_plan.proofs.putting.put_image.Statement.{statement}
+use Rattle.lent_plan.proofs.putting.put_image.Tie as tie
 
 abbrev Inv-loop : tie.InvT-loop
 Inv-loop w₀ at image next₀ p₀ w next p = Writing (λ k. getD image k 0 ∷ []) staticLimit (imageWords image) at w₀ p next w

@@ -6,8 +6,8 @@ use Rattle.plan.specs.Rules.{maxTemplates}
 use Rattle.plan.specs.Shapes.{templateAt}
 use Rattle.lent_plan.specs.Words.{templateWordsOf, templatesWords}
 use Rattle.lent_plan.proofs.Wording.{Writing, write-start, write-next, write-room, write-done}
-use Rattle.lent_plan.proofs.lending.put_templates.Statement.{statement}
-use Rattle.lent_plan.proofs.lending.put_templates.Tie as tie
+use Rattle.lent_plan.proofs.putting.put_templates.Statement.{statement}
+use Rattle.lent_plan.proofs.putting.put_templates.Tie as tie
 
 abbrev Inv-loop : tie.InvT-loop
 Inv-loop w₀ at plan next₀ i₀ w next i = Writing (λ k. templateWordsOf (templateAt plan k)) maxTemplates (templatesWords plan) at w₀ i next w

@@ -1,13 +1,12 @@
 -- Head, segments and image, one behind the other.
-use mathlib.Core.Path.{_≡_}
 use mathlib.Core.List.{append-assoc}
 use native.Mathlib.Omega.{arith}
 use Rattle.output.proofs.Placing.{put-then, put-as}
 use Rattle.lent_plan.specs.Words.{headWords, segmentsWords, imageWords, templateWordsOf}
 use Rattle.lent_plan.proofs.Wording.{length-head, length-segments, length-image, length-template}
 use borrow.Author.Needs.{needs}
-use Rattle.lent_plan.proofs.lending.put_template.Statement.{statement}
-use Rattle.lent_plan.proofs.lending.put_template.Tie as tie
+use Rattle.lent_plan.proofs.putting.put_template.Statement.{statement}
+use Rattle.lent_plan.proofs.putting.put_template.Tie as tie
 
 put-head-requires : tie.Need-put-head-requires
 put-head-requires c κs = omega (arith, length-template (c .before .before .args .template), c .before .before .pre)
