@@ -10,10 +10,10 @@ pub const MAX_VALUE: usize = 4096;
 /// The least output lent for a capsule.
 pub const CAPSULE_ROOM: usize = 4104;
 
-const DATAGRAM: u64 = 0;
-const ADDRESS_ASSIGN: u64 = 1;
-const ADDRESS_REQUEST: u64 = 2;
-const ROUTE_ADVERTISEMENT: u64 = 3;
+pub(crate) const DATAGRAM: u64 = 0;
+pub(crate) const ADDRESS_ASSIGN: u64 = 1;
+pub(crate) const ADDRESS_REQUEST: u64 = 2;
+pub(crate) const ROUTE_ADVERTISEMENT: u64 = 3;
 
 /// The fewest bytes that an address entry takes: an ID of one byte and an IPv4 address.
 const LEAST_ENTRY: usize = 7;
@@ -35,30 +35,48 @@ pub enum Capsule {
 
 /// One capsule at a place of a buffer, and where the next one starts.
 pub fn read_capsule(bytes: &[u8], at: usize) -> Result<(Capsule, usize), Refusal> {
-    let rest = bytes.get(at..).ok_or(Refusal::NotAllThere)?;
-    let (kind, kind_size) = parse(rest).ok_or(Refusal::NotAllThere)?;
-    let (length, length_size) = parse(&rest[kind_size..]).ok_or(Refusal::NotAllThere)?;
-    if kind <= ROUTE_ADVERTISEMENT && length > MAX_VALUE as u64 {
-        return Err(Refusal::ValueTooLong);
-    }
-    let rest = &rest[kind_size + length_size..];
-    if length > rest.len() as u64 {
-        return Err(Refusal::NotAllThere);
-    }
-    let length = length as usize;
-    let value = &rest[..length];
-    let start = at + kind_size + length_size;
-    let capsule = match kind {
-        DATAGRAM => Capsule::Datagram { start, length },
-        ADDRESS_ASSIGN => Capsule::Assign(read_assign(value)?),
-        ADDRESS_REQUEST => Capsule::Request(read_request(value)?),
-        ROUTE_ADVERTISEMENT => Capsule::Routes(read_routes(value)?),
+    let frame = Frame::read(bytes, at)?;
+    let capsule = match frame.kind {
+        DATAGRAM => Capsule::Datagram { start: frame.start, length: frame.value.len() },
+        ADDRESS_ASSIGN => Capsule::Assign(read_assign(frame.value)?),
+        ADDRESS_REQUEST => Capsule::Request(read_request(frame.value)?),
+        ROUTE_ADVERTISEMENT => Capsule::Routes(read_routes(frame.value)?),
         _ => Capsule::Skipped,
     };
-    Ok((capsule, start + length))
+    Ok((capsule, frame.next()))
 }
 
-fn read_assign(mut value: &[u8]) -> Result<AddressList, Refusal> {
+/// A capsule whose value is all there.
+pub(crate) struct Frame<'a> {
+    pub kind: u64,
+    pub start: usize,
+    pub value: &'a [u8],
+}
+
+impl<'a> Frame<'a> {
+    #[inline]
+    pub fn read(bytes: &'a [u8], at: usize) -> Result<Frame<'a>, Refusal> {
+        let rest = bytes.get(at..).ok_or(Refusal::NotAllThere)?;
+        let (kind, kind_size) = parse(rest).ok_or(Refusal::NotAllThere)?;
+        let (length, length_size) = parse(&rest[kind_size..]).ok_or(Refusal::NotAllThere)?;
+        if kind <= ROUTE_ADVERTISEMENT && length > MAX_VALUE as u64 {
+            return Err(Refusal::ValueTooLong);
+        }
+        let size = kind_size + length_size;
+        let rest = &rest[size..];
+        if length > rest.len() as u64 {
+            return Err(Refusal::NotAllThere);
+        }
+        Ok(Frame { kind, start: at + size, value: &rest[..length as usize] })
+    }
+
+    #[inline]
+    pub fn next(&self) -> usize {
+        self.start + self.value.len()
+    }
+}
+
+pub(crate) fn read_assign(mut value: &[u8]) -> Result<AddressList, Refusal> {
     let mut list = AddressList::default();
     while !value.is_empty() {
         let (entry, rest) = read_entry(value).ok_or(Refusal::BadAddress)?;
@@ -75,7 +93,7 @@ fn read_assign(mut value: &[u8]) -> Result<AddressList, Refusal> {
 }
 
 /// Request IDs differ among all entries, also among those past the limit.
-fn read_request(mut value: &[u8]) -> Result<AddressList, Refusal> {
+pub(crate) fn read_request(mut value: &[u8]) -> Result<AddressList, Refusal> {
     let mut list = AddressList::default();
     let mut ids = [RequestId(0); MAX_VALUE / LEAST_ENTRY];
     while !value.is_empty() {
@@ -99,7 +117,7 @@ fn read_request(mut value: &[u8]) -> Result<AddressList, Refusal> {
     Ok(list)
 }
 
-fn read_routes(mut value: &[u8]) -> Result<RouteList, Refusal> {
+pub(crate) fn read_routes(mut value: &[u8]) -> Result<RouteList, Refusal> {
     let mut list = RouteList::default();
     let mut previous: Option<RouteRange> = None;
     while !value.is_empty() {

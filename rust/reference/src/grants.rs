@@ -1,6 +1,7 @@
 //! The grants in force and what they let pass.
 
-use crate::capsule::{self, read_capsule, Capsule, CAPSULE_ROOM};
+use crate::capsule::{self, read_assign, read_request, read_routes, Frame, CAPSULE_ROOM};
+use crate::capsule::{ADDRESS_ASSIGN, ADDRESS_REQUEST, DATAGRAM, ROUTE_ADVERTISEMENT};
 use crate::list::{assign_fault, routes_fault};
 use crate::packet::Header;
 use crate::{AddressList, Refusal, RouteList};
@@ -12,6 +13,22 @@ pub struct Grants {
     pub received_routes: RouteList,
     pub given_addresses: AddressList,
     pub given_routes: RouteList,
+}
+
+/// What a capsule did to the grants, or hands back.
+#[derive(Clone, Copy, Debug, PartialEq, Eq)]
+#[allow(clippy::large_enum_variant)]
+pub enum Event {
+    /// Where the value stands in the bytes.
+    Datagram {
+        start: usize,
+        length: usize,
+    },
+    Assigned,
+    Requested(AddressList),
+    Advertised,
+    /// Any other type.
+    Skipped,
 }
 
 impl Grants {
@@ -44,17 +61,25 @@ impl Grants {
     }
 
     /// One capsule at a place, and where the next one starts; a list that was assigned or advertised replaces the received one.
-    pub fn read_capsule(&mut self, bytes: &[u8], at: usize) -> Result<(Capsule, usize), Refusal> {
+    pub fn read_capsule(&mut self, bytes: &[u8], at: usize) -> Result<(Event, usize), Refusal> {
         if !self.sound() {
             return Err(Refusal::BrokenState);
         }
-        let (capsule, next) = read_capsule(bytes, at)?;
-        match &capsule {
-            Capsule::Assign(list) => self.received_addresses = *list,
-            Capsule::Routes(list) => self.received_routes = *list,
-            Capsule::Datagram { .. } | Capsule::Request(_) | Capsule::Skipped => {}
-        }
-        Ok((capsule, next))
+        let frame = Frame::read(bytes, at)?;
+        let event = match frame.kind {
+            DATAGRAM => Event::Datagram { start: frame.start, length: frame.value.len() },
+            ADDRESS_ASSIGN => {
+                self.received_addresses = read_assign(frame.value)?;
+                Event::Assigned
+            }
+            ADDRESS_REQUEST => Event::Requested(read_request(frame.value)?),
+            ROUTE_ADVERTISEMENT => {
+                self.received_routes = read_routes(frame.value)?;
+                Event::Advertised
+            }
+            _ => Event::Skipped,
+        };
+        Ok((event, frame.next()))
     }
 
     /// An ADDRESS_ASSIGN capsule; its list becomes the given one.

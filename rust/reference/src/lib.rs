@@ -15,7 +15,7 @@ pub mod refusal;
 pub mod tunnel;
 
 pub use capsule::{read_capsule, write_assign, write_datagram, write_request, write_routes, Capsule};
-pub use grants::Grants;
+pub use grants::{Event, Grants};
 pub use list::{AddressEntry, AddressList, List, RequestId, RouteList, RouteRange};
 pub use number::{read_number, write_number};
 pub use plan::{read_plan, write_plan, Checksum, ContextId, Plan, Segment, Template};

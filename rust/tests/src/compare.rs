@@ -246,7 +246,7 @@ impl<'a> Run<'a> {
             }
             table.push('\n');
         }
-        for ((entry, label), _) in &self.answers {
+        for (entry, label) in self.answers.keys() {
             if !ANSWERS.iter().any(|(e, labels)| e == entry && labels.contains(label)) {
                 missing.push(format!("{entry} answered {label}, which it cannot"));
             }

@@ -109,9 +109,9 @@ fn capsules_read(run: &mut Run, random: &mut Random, cases: u64) {
     while run.cases < cases {
         let mut state = lists_state(random);
         let requested = requested(random);
-        if random.once_in(60) {
+        if random.once_in(80) {
             let bytes = capsule(random);
-            let step = if bytes.len() > 600 { random.between(3, 17) } else { 1 };
+            let step = if bytes.len() > 200 { random.between(3, 40) } else { 1 };
             for cut in (0..=bytes.len()).step_by(step) {
                 run.read_capsule(&state, &bytes[..cut], 0, &requested);
             }

@@ -2,7 +2,7 @@
 
 use crate::words::{address_list, address_words, grants_of, plan_of, plan_words, route_list, route_words};
 use whapirohi_reference as reference;
-use whapirohi_reference::Refusal;
+use whapirohi_reference::{Event, Refusal};
 use whapirohi_tunnel::{AddressWords, Answer, Capsule, Number, RouteWords, State};
 
 pub trait Subject {
@@ -98,27 +98,28 @@ impl Subject for Model {
     }
 
     fn read_capsule(&self, state: &mut State, bytes: &[u8], at: usize, requested: &mut AddressWords) -> Capsule {
-        let (capsule, next) = match grants_of(state).read_capsule(bytes, at) {
+        let mut grants = grants_of(state);
+        let (event, next) = match grants.read_capsule(bytes, at) {
             Ok(read) => read,
             Err(refusal) => {
                 return Capsule { number: refusal.number().into(), kind: 0, start: 0, length: 0, next: at as u64 };
             }
         };
-        let (kind, start, length) = match capsule {
-            reference::Capsule::Datagram { start, length } => (0, start, length),
-            reference::Capsule::Assign(list) => {
-                state.received_addresses = address_words(&list);
+        let (kind, start, length) = match event {
+            Event::Datagram { start, length } => (0, start, length),
+            Event::Assigned => {
+                state.received_addresses = address_words(&grants.received_addresses);
                 (1, 0, 0)
             }
-            reference::Capsule::Request(list) => {
+            Event::Requested(list) => {
                 *requested = address_words(&list);
                 (2, 0, 0)
             }
-            reference::Capsule::Routes(list) => {
-                state.received_routes = route_words(&list);
+            Event::Advertised => {
+                state.received_routes = route_words(&grants.received_routes);
                 (3, 0, 0)
             }
-            reference::Capsule::Skipped => (4, 0, 0),
+            Event::Skipped => (4, 0, 0),
         };
         Capsule { number: 0, kind, start: start as u64, length: length as u64, next: next as u64 }
     }
