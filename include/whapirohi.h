@@ -18,7 +18,8 @@ extern "C" {
 #endif
 
 /* Words of a list: the count, then 4 words an entry (Request ID; version + 256 * prefix length; high half, low half of the address) or
- * 5 words a range (version + 256 * protocol; start, high and low half; end, high and low half). An IPv4 address stands in the low half. */
+ * 5 words a range (version + 256 * protocol; start, high and low half; end, high and low half). An IPv4 address stands in the low half.
+ * Bits above those two bytes, and words past the count, mean nothing; they are 0 in a list that the box makes. */
 enum {
     WHAPIROHI_ADDRESS_WORDS = 65,
     WHAPIROHI_ROUTE_WORDS = 321,

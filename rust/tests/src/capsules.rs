@@ -64,8 +64,8 @@ fn listed(random: &mut Random, limit: usize) -> usize {
 /// The value of an address capsule; for a request, IDs are not 0 and differ unless one is spoilt.
 fn address_value(random: &mut Random, request: bool) -> Vec<u8> {
     let count = listed(random, 16);
-    let spoilt = if request && random.once_in(4) { random.below(count + 1) } else { usize::MAX };
-    let faulty = if random.once_in(5) { random.below(count + 1) } else { usize::MAX };
+    let spoilt = if request && random.once_in(3) { random.below(count + 1) } else { usize::MAX };
+    let faulty = if random.once_in(8) { random.below(count + 1) } else { usize::MAX };
     let first_id = random.below(60) as u64;
     let small = random.once_in(3) || count > 100;
     let mut ids: Vec<u64> = Vec::new();

@@ -194,7 +194,7 @@ fn capsules_written(run: &mut Run, random: &mut Random, cases: u64) {
                     2 => words[0] = 17,
                     3 if entries > 1 && request => {
                         let (a, b) = (random.below(entries), random.below(entries));
-                        words[1 + 4 * a] = words[1 + 4 * b];
+                        words[1 + 4 * a] = random.pick(&[words[1 + 4 * b], 0]);
                     }
                     _ => {}
                 }

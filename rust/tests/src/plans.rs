@@ -209,7 +209,15 @@ pub fn damage_plan(random: &mut Random, words: &mut PlanWords) {
     let previous = if at == 0 { 0 } else { words[1 + TEMPLATE_WORDS * (at - 1)] };
     let w = &mut words[1 + TEMPLATE_WORDS * at..][..TEMPLATE_WORDS];
     let count = w[SEGMENT_COUNT] as usize;
-    match random.below(8) {
+    match random.below(9) {
+        // The field just before, at the first, at the last byte of a segment, or just behind it.
+        8 if count > 0 => {
+            let segment = &w[SEGMENTS + 2 * random.below(count)..][..2];
+            let (offset, end) = (segment[0], segment[0] + segment[1]);
+            w[FLAG] = 1;
+            w[FIELD] = random.pick(&[offset.wrapping_sub(2), offset.wrapping_sub(1), offset, end.wrapping_sub(1), end]);
+            w[START] = w[FIELD];
+        }
         0 => w[0] = random.pick(&[0, previous, previous.wrapping_sub(1), 1 << 62, (1 << 62) + 1, u64::MAX]),
         1 => w[SEGMENT_COUNT] = random.pick(&[0, 9, 256, (1 << 32) + 1, 1 << 63, u64::MAX]),
         2 => w[FLAG] = random.pick(&[2, 3, 256, 257, 1 << 32, u64::MAX]),
