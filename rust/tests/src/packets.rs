@@ -393,14 +393,10 @@ pub fn datagram(random: &mut Random, scene: &Scene, sent: Option<&[u8]>) -> Vec<
             let length = size + random.between(1499, 1502) - rebuilt;
             datagram.resize(length.max(size), random.byte());
         }
-        10 => datagram = random.bytes(random_length(size + body.len())),
+        10 => datagram = random.bytes(sent.len().min(40)),
         _ => datagram = [&[0][..], body].concat(),
     }
     datagram
-}
-
-fn random_length(length: usize) -> usize {
-    length.min(40)
 }
 
 fn other_datagram(random: &mut Random, scene: &Scene) -> Vec<u8> {
