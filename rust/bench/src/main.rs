@@ -219,15 +219,16 @@ fn ipv6_lists() -> Grants {
     lists
 }
 
-/// The medians of both, in nanoseconds a call.
-fn take_turns(mut first: impl FnMut() -> usize, mut second: impl FnMut() -> usize) -> (f64, f64) {
+/// The medians of both, in nanoseconds a call, and of their ratio turn by turn.
+fn take_turns(mut first: impl FnMut() -> usize, mut second: impl FnMut() -> usize) -> (f64, f64, f64) {
     let (first_count, second_count) = (calls(&mut first), calls(&mut second));
     let (mut firsts, mut seconds) = (Vec::new(), Vec::new());
     for _ in 0..ROUNDS {
         firsts.push(timed(&mut first, first_count));
         seconds.push(timed(&mut second, second_count));
     }
-    (median(firsts), median(seconds))
+    let ratios = firsts.iter().zip(&seconds).map(|(first, second)| first / second).collect();
+    (median(firsts), median(seconds), median(ratios))
 }
 
 /// How many calls fill a round.
@@ -258,6 +259,6 @@ fn median(mut times: Vec<f64>) -> f64 {
     times[times.len() / 2]
 }
 
-fn row(call: &str, length: usize, templates: &str, lists: &str, (proved, rust): (f64, f64)) {
-    println!("| {call} | {length} | {templates} | {lists} | {proved:.0} | {rust:.0} | {:.2} |", proved / rust);
+fn row(call: &str, length: usize, templates: &str, lists: &str, (proved, rust, ratio): (f64, f64, f64)) {
+    println!("| {call} | {length} | {templates} | {lists} | {proved:.0} | {rust:.0} | {ratio:.2} |");
 }

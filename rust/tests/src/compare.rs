@@ -33,12 +33,14 @@ pub const ANSWERS: &[(&str, &[&str])] = &[
 pub struct Written {
     pub answer: Answer,
     pub out: Vec<u8>,
+    differs: bool,
 }
 
 impl Written {
-    /// What was written; none of a refusal.
+    /// What was written; none of a refusal, nor where the model would have answered otherwise.
     pub fn bytes(&self) -> Option<&[u8]> {
-        (self.answer.number == 0).then(|| self.out.get(..self.answer.length as usize)).flatten()
+        let done = self.answer.number == 0 && !self.differs;
+        done.then(|| &self.out[..self.answer.length as usize])
     }
 }
 
@@ -168,7 +170,8 @@ impl<'a> Run<'a> {
         let got = call(self.subject, &mut got_state, &mut got_out);
         self.count(entry, label(&wanted, &wanted_out));
         let untouched = wanted.number == 0 || wanted_out == out && wanted_state == *state;
-        if got != wanted || got_out != wanted_out || got_state != wanted_state || !untouched {
+        let differs = got != wanted || got_out != wanted_out || got_state != wanted_state;
+        if differs || !untouched {
             self.fault(format!(
                 "{entry}, output of {} bytes, {}\n{}  wanted {wanted:?} {}\n  got    {got:?} {}{}{}",
                 out.len(),
@@ -180,7 +183,7 @@ impl<'a> Run<'a> {
                 if got_state == wanted_state { "" } else { "\n  the states differ" },
             ));
         }
-        Written { answer: got, out: got_out }
+        Written { answer: got, out: got_out, differs }
     }
 
     pub fn load_plan(&mut self, state: &State, file: &[u8]) -> (u64, State) {

@@ -13,7 +13,7 @@ use whapirohi_differential::subject::Library as Tested;
 use whapirohi_differential::subject::Model as Tested;
 
 const SEED: u64 = 9484;
-const CASES: u64 = 400_000;
+const CASES: u64 = 800_000;
 
 fn main() -> ExitCode {
     let seed = variable("SEED", SEED);
