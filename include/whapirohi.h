@@ -18,7 +18,8 @@ extern "C" {
 #endif
 
 /* Words of a list: the count, then 4 words an entry (Request ID; version + 256 * prefix length; high half, low half of the address) or
- * 5 words a range (version + 256 * protocol; start, high and low half; end, high and low half). An IPv4 address stands in the low half. */
+ * 5 words a range (version + 256 * protocol; start, high and low half; end, high and low half). An IPv4 address stands in the low half.
+ * Bits above those two bytes, and words past the count, mean nothing; they are 0 in a list that the box makes. */
 enum {
     WHAPIROHI_ADDRESS_WORDS = 65,
     WHAPIROHI_ROUTE_WORDS = 321,
@@ -35,7 +36,9 @@ enum {
 };
 
 /* The plan in words: the count of templates, then 149 words a template: Context ID, count of segments, 1 with a checksum and 0 without,
- * field, start, 8 segments of two words (offset, length), and 128 words with a static byte each: that of position p of a packet is word p. */
+ * field, start, 8 segments of two words (offset, length), and 128 words with a static byte each: that of position p of a packet is word p.
+ * A third word other than 0 counts as 1. Bits above a static byte, templates and segments past their counts, bytes outside all segments, and
+ * field and start without a checksum mean nothing; they are 0 in a plan that the box reads. */
 typedef struct whapirohi_state {
     uint64_t received_addresses[WHAPIROHI_ADDRESS_WORDS];
     uint64_t received_routes[WHAPIROHI_ROUTE_WORDS];
