@@ -3,7 +3,7 @@
 use answer::Answer;
 use grant::Grants;
 use inet::lower::lower_into;
-use plan::Plan;
+use lent_plan::PLAN_WORDS;
 use template::MAX_PACKET;
 use tunnel::RECEIVE_ROOM;
 use tunnel::SEND_ROOM;
@@ -11,6 +11,7 @@ ghost use mathlib.Core.Path.{_≡_};
 ghost use mathlib.Core.Bool.{true};
 ghost use Rattle.inet.specs.Packet.{lowered};
 ghost use Rattle.plan.specs.Shapes.{shapesOf};
+ghost use Rattle.lent_plan.specs.Lent.{lentPlan};
 ghost use Rattle.template.specs.Datagrams.{fullForm, opened};
 ghost use Rattle.template.specs.Usable.{Wrote};
 ghost use Rattle.demands.specs.Forms.{Enclosable, StandsFor};
@@ -19,7 +20,12 @@ ghost use Rattle.demands.specs.Forms.{Enclosable, StandsFor};
 const FULL_ROOM: usize = 1 + MAX_PACKET;
 
 // Sends a packet, receives what was sent and the full form of the packet with another end's lists, and says whether both came to the same.
-pub fn forms_agree(grants: Grants, other: Grants, plan: Plan, packet: &[u8]) -> bool
+pub fn forms_agree<'a>(
+    grants: Grants,
+    other: Grants,
+    plan: &'a [u64; PLAN_WORDS],
+    packet: &'a [u8],
+) -> bool
     ensures { λ r. ⌜ r ≡ true ⌝ }
 {
     let mut wire = [0u8; SEND_ROOM];
@@ -31,8 +37,13 @@ pub fn forms_agree(grants: Grants, other: Grants, plan: Plan, packet: &[u8]) -> 
 }
 
 // Whether a datagram of the packet comes to the same as its full form.
-fn agrees_with_full<'a>(grants: Grants, plan: Plan, packet: &'a [u8], sent: &'a [u8]) -> bool
-    requires { ⌜ StandsFor plan (now sent) (now packet) ⌝ }
+fn agrees_with_full<'a>(
+    grants: Grants,
+    plan: &'a [u64; PLAN_WORDS],
+    packet: &'a [u8],
+    sent: &'a [u8],
+) -> bool
+    requires { ⌜ StandsFor (lentPlan (now plan)) (now sent) (now packet) ⌝ }
     ensures { λ r. ⌜ r ≡ true ⌝ }
 {
     let mut full = [0u8; FULL_ROOM];
@@ -51,8 +62,8 @@ fn put_full(packet: &[u8], out: &mut [u8]) -> usize
 }
 
 // Whether two datagrams are received with the same answer and the same bytes.
-fn received_alike<'a>(grants: Grants, plan: Plan, a: &'a [u8], b: &'a [u8]) -> bool
-    requires { ⌜ opened (shapesOf plan) (now a) ≡ opened (shapesOf plan) (now b) ⌝ }
+fn received_alike<'a>(grants: Grants, plan: &'a [u64; PLAN_WORDS], a: &'a [u8], b: &'a [u8]) -> bool
+    requires { ⌜ opened (shapesOf (lentPlan (now plan))) (now a) ≡ opened (shapesOf (lentPlan (now plan))) (now b) ⌝ }
     ensures { λ r. ⌜ r ≡ true ⌝ }
 {
     let mut first = [0u8; RECEIVE_ROOM];

@@ -3,8 +3,7 @@
 use lists::AddressList;
 use lists::RouteList;
 ghost use mathlib.Core.Path.{_≡_};
-ghost use Rattle.inet.specs.Packet.{Form};
-ghost use Rattle.grant.specs.State.{noGrants, soundGrants, sendingGranted, receivingGranted};
+ghost use Rattle.grant.specs.State.{noGrants, soundGrants};
 ghost use Rattle.grant.specs.State.{withReceivedAddresses, withReceivedRoutes, withGivenAddresses, withGivenRoutes};
 
 #[repr(C)]
@@ -76,38 +75,5 @@ impl Grants {
         let mut g = self;
         g.given_routes = list;
         g
-    }
-
-    // Whether the grants let a packet out, and in.
-    pub fn sending_granted(self, packet: &[u8]) -> bool
-        requires { ⌜ Form (now packet) ⌝ }
-        ensures { λ r. ⌜ r ≡ sendingGranted self (now (packet .entry)) ⌝ }
-    {
-        let received_addresses = self.received_addresses;
-        let received_routes = self.received_routes;
-        let given_addresses = self.given_addresses;
-        let given_routes = self.given_routes;
-        let a = received_addresses.words;
-        let b = received_routes.words;
-        let c = given_addresses.words;
-        let d = given_routes.words;
-        let f = verdict::flow_of(packet);
-        verdict::passes(&a, &b, &c, &d, f)
-    }
-
-    pub fn receiving_granted(self, packet: &[u8]) -> bool
-        requires { ⌜ Form (now packet) ⌝ }
-        ensures { λ r. ⌜ r ≡ receivingGranted self (now (packet .entry)) ⌝ }
-    {
-        let received_addresses = self.received_addresses;
-        let received_routes = self.received_routes;
-        let given_addresses = self.given_addresses;
-        let given_routes = self.given_routes;
-        let a = given_addresses.words;
-        let b = given_routes.words;
-        let c = received_addresses.words;
-        let d = received_routes.words;
-        let f = verdict::flow_of(packet);
-        verdict::passes(&a, &b, &c, &d, f)
     }
 }

@@ -11,21 +11,30 @@ pub fn word(hi: u8, lo: u8) -> u64
     hi as u64 * 256 + lo as u64
 }
 
+// The same in 32 bits, which hold the sum of all words of a packet.
+fn narrow_word(hi: u8, lo: u8) -> u32
+    ensures { λ r. ⌜ (r ≡ hi * 256 + lo) × (r ≤ 65535) ⌝ }
+{
+    hi as u32 * 256 + lo as u32
+}
+
 // The sum of the words of s, which is no longer than an IPv4 packet; an odd last byte is a high half.
 pub fn sum_words(s: &[u8]) -> u64
     requires { ⌜ length (now s) ≤ 65535 ⌝ }
     ensures { λ r. ⌜ (r ≡ words (now (s .entry))) × (r < 4294967296) ⌝ }
 {
-    let mut acc: u64 = 0;
-    let mut i = 0;
-    while i + 1 < s.len() {
-        acc += word(s[i], s[i + 1]);
-        i += 2;
+    let pairs = s.len() / 2;
+    let mut acc: u32 = 0;
+    let mut k = 0;
+    while k < pairs {
+        acc += narrow_word(s[2 * k], s[2 * k + 1]);
+        k += 1;
     }
+    let i = 2 * pairs;
     if i < s.len() {
-        acc += word(s[i], 0);
+        return (acc + narrow_word(s[i], 0)) as u64;
     }
-    acc
+    acc as u64
 }
 
 // A sum folded to 16 bits.

@@ -7,8 +7,12 @@ mod rules;
 
 use answer::Verdict;
 pub use reading::read_plan;
+pub use rules::clear_of;
+pub use rules::id_rule;
 pub use rules::plan_fault;
 pub use rules::plan_sound;
+pub use rules::segment_rule;
+pub use rules::sum_rule;
 ghost use mathlib.Core.Path.{_≡_};
 ghost use mathlib.Core.List.{[]};
 ghost use Rattle.plan.specs.Results.{blankTemplate, planOf};

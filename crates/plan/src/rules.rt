@@ -69,7 +69,7 @@ fn template_fault(previous: u64, template: Template) -> Verdict
 }
 
 // An ID is above the one before it and below 2^62.
-pub(crate) fn id_rule(previous: u64, id: u64) -> bool
+pub fn id_rule(previous: u64, id: u64) -> bool
     ensures { λ r. ⌜ r ≡ idRule previous id ⌝ }
 {
     if id <= previous {
@@ -98,7 +98,7 @@ fn segments_fault(template: Template) -> Verdict
 }
 
 // A segment is at least 1 long, starts where the one before it ended or later, and ends within the limit.
-pub(crate) fn segment_rule(ended: usize, offset: usize, size: usize) -> bool
+pub fn segment_rule(ended: usize, offset: usize, size: usize) -> bool
     ensures { λ r. ⌜ r ≡ segmentRule ended offset size ⌝ }
 {
     if size < 1 {
@@ -136,7 +136,7 @@ fn checksum_fault(template: Template) -> Verdict
 }
 
 // 20 <= start <= field <= 126, and an even number of bytes between them.
-pub(crate) fn sum_rule(field: usize, start: usize) -> bool
+pub fn sum_rule(field: usize, start: usize) -> bool
     ensures { λ r. ⌜ r ≡ sumRule field start ⌝ }
 {
     if start < 20 {
@@ -168,7 +168,7 @@ pub(crate) fn all_clear(field: usize, segments: [Segment; MAX_SEGMENTS], n: usiz
 }
 
 // The two bytes of a field lie before a segment or behind it.
-fn clear_of(field: usize, offset: usize, size: usize) -> bool
+pub fn clear_of(field: usize, offset: usize, size: usize) -> bool
     ensures { λ r. ⌜ r ≡ clearOf field offset size ⌝ }
 {
     if field < offset {

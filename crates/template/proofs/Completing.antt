@@ -9,6 +9,8 @@ use Rattle.inet.specs.Transport.{seed, setField, finish}
 use Rattle.inet.proofs.FieldLaws.{put-take, setField-length}
 use Rattle.plan.specs.declared.Template.{Template}
 use Rattle.plan.specs.Shapes.{shapeOf}
+use Rattle.lent_plan.specs.declared.Head.{Head}
+use Rattle.lent_plan.specs.Lent.{headOf}
 use Rattle.template.specs.Pieces.{staticSize, weave}
 use Rattle.template.specs.Datagrams.{seeded, rebuilt}
 use Rattle.template.specs.Usable.{piecesOf, Seedable, Rebuildable, Weavable, Completable, Begins}
@@ -33,42 +35,48 @@ module _ (t : Template) (v : List ℕ) (ready : Rebuildable t v) where
     size : r ≡ staticSize (piecesOf t) + length v
     size = b .size ∙ length-weave (piecesOf t) 0 v
 
-    pub completable : 1500 ≤ length out → t .checksum ≡ true → Completable (t .field) (t .start) r out
-    completable h e =
-        record {
-          order = sum-facts t (ready .usable .sound) e .order;
-          inside = omega (arith, size, reaches-field t v (ready .reach) e);
-          room = omega (arith, size, ready .small);
-          small = omega (arith, size, ready .small);
-        }
+    module _ {head : Head} (known : head ≡ headOf t) where
+      pub completable : 1500 ≤ length out → head .checksum ≡ true → Completable (head .field) (head .start) r out
+      completable h e =
+          let f : t .checksum ≡ true = rw known at e in
+          rw known (record {
+            order = sum-facts t (ready .usable .sound) f .order;
+            inside = omega (arith, size, reaches-field t v (ready .reach) f);
+            room = omega (arith, size, ready .small);
+            small = omega (arith, size, ready .small);
+          })
 
-    -- without a checksum
-    pub begins-plain : t .checksum ≡ false → Begins (rebuilt (shapeOf t) v) out r
-    begins-plain e = rw (rebuilt-plain t v e) b
+      -- without a checksum
+      pub begins-plain : head .checksum ≡ false → Begins (rebuilt (shapeOf t) v) out r
+      begins-plain e = rw (rebuilt-plain t v (rw known at e)) b
 
-    -- with one
-    pub begins-sum : {out′ : List ℕ} → t .checksum ≡ true → out′ ≡ setField (t .field) (finish (t .start) (take r out)) out → Begins (rebuilt (shapeOf t) v) out′ r
-    begins-sum {out′} e q =
-        let w = weave 0 (piecesOf t) v in
-        let l : t .field + 1 < r = omega (arith, size, reaches-field t v (ready .reach) e) in
-        let s : rebuilt (shapeOf t) v ≡ setField (t .field) (finish (t .start) w) w = rebuilt-sum t v e in
-        record {
-          size = b .size ∙ sym (ap length s ∙ setField-length (t .field) (finish (t .start) w) w);
-          front =
-              ap (take r) q ∙ put-take out (t .field) (finish (t .start) (take r out)) r l
-              ∙ ap (λ (x : List ℕ). setField (t .field) (finish (t .start) x) x) (b .front) ∙ sym s;
-        }
+      -- with one
+      pub begins-sum : {out′ : List ℕ} → head .checksum ≡ true → out′ ≡ setField (head .field) (finish (head .start) (take r out)) out → Begins (rebuilt (shapeOf t) v) out′ r
+      begins-sum {out′} e q =
+          let f : t .checksum ≡ true = rw known at e in
+          let w = weave 0 (piecesOf t) v in
+          let l : t .field + 1 < r = omega (arith, size, reaches-field t v (ready .reach) f) in
+          let s : rebuilt (shapeOf t) v ≡ setField (t .field) (finish (t .start) w) w = rebuilt-sum t v f in
+          record {
+            size = b .size ∙ sym (ap length s ∙ setField-length (t .field) (finish (t .start) w) w);
+            front =
+                ap (take r) (rw known at q) ∙ put-take out (t .field) (finish (t .start) (take r out)) r l
+                ∙ ap (λ (x : List ℕ). setField (t .field) (finish (t .start) x) x) (b .front) ∙ sym s;
+          }
 
 -- the seed in the field of a template with a checksum
-module _ (t : Template) (p : List ℕ) where
-  pub seeded-plain : t .checksum ≡ false → p ≡ seeded (shapeOf t .sum) p
+module _ (t : Template) (p : List ℕ) {head : Head} (known : head ≡ headOf t) where
+  pub seeded-plain : head .checksum ≡ false → p ≡ seeded (shapeOf t .sum) p
   unfolding shapeOf
-  seeded-plain e = rw e
+  seeded-plain e = rw (rw known at e)
 
-  pub seeded-sum : {v : ℕ} {q : List ℕ} → t .checksum ≡ true → v ≡ seed (t .start) p → q ≡ setField (t .field) v p → q ≡ seeded (shapeOf t .sum) p
+  pub seeded-sum : {v : ℕ} {q : List ℕ} → head .checksum ≡ true → v ≡ seed (head .start) p → q ≡ setField (head .field) v p → q ≡ seeded (shapeOf t .sum) p
   unfolding shapeOf
-  seeded-sum e f g = rw e (g ∙ ap (λ (x : ℕ). setField (t .field) x p) f)
+  seeded-sum e f g = rw (rw known at e) (rw known at g ∙ ap (λ (x : ℕ). setField (t .field) x p) (rw known at f))
 
-  pub seedable-inside : Seedable t p → t .checksum ≡ true → t .field + 2 ≤ length p
+  pub seedable-inside : Seedable t p → head .checksum ≡ true → head .field + 2 ≤ length p
   unfolding shapeOf
-  seedable-inside s e = rw e at (s .inside)
+  seedable-inside s e = rw known (rw (rw known at e) at (s .inside))
+
+  pub seedable-order : Seedable t p → head .checksum ≡ true → head .start ≤ head .field
+  seedable-order s e = rw known (sum-facts t (s .usable .sound) (rw known at e) .order)

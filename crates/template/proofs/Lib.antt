@@ -3,6 +3,7 @@ pub mod RebuildLaws
 pub mod Steps
 pub mod CompletionLaws
 pub mod Writing
+pub mod StaticBytes
 pub mod Sizes
 pub mod Shortening
 pub mod Weaving

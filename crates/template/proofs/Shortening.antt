@@ -6,6 +6,7 @@ use mathlib.Core.List.{List, _++_, append-assoc}
 use native.Mathlib.Omega.{arith}
 use lib.ListN.{length, take, drop, length-drop}
 use lib.Seq.{take-all, length-take-le}
+use Rattle.plan.specs.declared.Segment.{Segment}
 use Rattle.plan.specs.declared.Template.{Template}
 use Rattle.plan.specs.Shapes.{segmentAt}
 use Rattle.template.specs.Pieces.{strip, lastEnd}
@@ -46,31 +47,33 @@ module _ (t : Template) (p out₀ : List ℕ) (at : ℕ) (ready : Shortenable t 
       }
 
   module _ {out : List ℕ} {pos next j : ℕ} (i : Shortening t p out₀ at out pos next j) where
-    pub next-up : j < t .count → pos ≤ segmentAt t j .offset
-    next-up h = ascends-head t j (t .count) h pos (i .up)
+    -- the segment that is read next
+    module _ {s : Segment} (h : j < t .count) (q : s ≡ segmentAt t j) where
+      pub next-up : pos ≤ s .offset
+      next-up = rw q (ascends-head t j (t .count) h pos (i .up))
 
-    pub next-inside : j < t .count → segmentEnd t j ≤ length p
-    next-inside h =
-        let e = end-step t j (t .count) h pos in
-        let a = ascends-end (piecesFrom t (j + 1) (t .count - (j + 1))) (segmentEnd t j) (ascends-tail t j (t .count) h pos (i .up)) in
-        omega (arith, i .reach)
+      pub next-inside : s .offset + s .length ≤ length p
+      next-inside =
+          let e = end-step t j (t .count) h pos in
+          let a = ascends-end (piecesFrom t (j + 1) (t .count - (j + 1))) (segmentEnd t j) (ascends-tail t j (t .count) h pos (i .up)) in
+          rw q (omega (arith, i .reach))
 
-    pub shortening-more : {out′ : List ℕ} {r : ℕ} → j < t .count → Wrote (take (segmentAt t j .offset - pos) (drop pos p)) next out out′ r → length out′ ≡ length out → Shortening t p out₀ at out′ (segmentEnd t j) r (j + 1)
-    shortening-more {out′} {r} h w l =
-        let u = next-up h in
-        let d = length-take-le (segmentAt t j .offset - pos) (drop pos p) (omega (arith, length-drop pos p, next-inside h)) in
-        let e : r ≡ next + (segmentAt t j .offset - pos) = omega (arith, w .size) in
-        let k : next ≤ length out = omega (arith, ready .room) in
-        record {
-          turn = omega arith;
-          behind = omega arith;
-          inside = next-inside h;
-          same = l ∙ i .same;
-          up = ascends-tail t j (t .count) h pos (i .up);
-          reach = rw (end-step t j (t .count) h pos) at (i .reach);
-          front = rw (wrote-take w k, append-assoc, ← strip-step t j (t .count) h pos p u) (i .front);
-          rest = wrote-drop w k ∙ drop-more next r out out₀ (omega arith) (i .rest);
-        }
+      pub shortening-more : {out′ : List ℕ} {r : ℕ} → Wrote (take (s .offset - pos) (drop pos p)) next out out′ r → length out′ ≡ length out → Shortening t p out₀ at out′ (s .offset + s .length) r (j + 1)
+      shortening-more {out′} {r} w l =
+          let u = next-up in
+          let d = length-take-le (s .offset - pos) (drop pos p) (omega (arith, length-drop pos p, next-inside)) in
+          let e : r ≡ next + (s .offset - pos) = omega (arith, w .size) in
+          let k : next ≤ length out = omega (arith, ready .room) in
+          record {
+            turn = omega arith;
+            behind = omega arith;
+            inside = next-inside;
+            same = l ∙ i .same;
+            up = rw q (ascends-tail t j (t .count) h pos (i .up));
+            reach = rw q (rw (end-step t j (t .count) h pos) at (i .reach));
+            front = rw (wrote-take w k, append-assoc, q, ← strip-step t j (t .count) h pos p (rw q at u)) (i .front);
+            rest = wrote-drop w k ∙ drop-more next r out out₀ (omega arith) (i .rest);
+          }
 
     pub shortening-done : {out′ : List ℕ} {r : ℕ} → t .count ≤ j → Wrote (take (length p - pos) (drop pos p)) next out out′ r → length out′ ≡ length out → Wrote (strip 0 (piecesOf t) p) at out₀ out′ r
     unfolding strip

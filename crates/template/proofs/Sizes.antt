@@ -1,6 +1,6 @@
 -- The sizes and ends of a template's segments. Assumes nothing.
 use Prim.Native.Nat.{ℕ, zero, suc, _+_, _-_, _≤_, _<_}
-use mathlib.Core.Path.{_≡_, ap, _∙_}
+use mathlib.Core.Path.{_≡_, ap, sym, _∙_}
 use mathlib.Core.List.{List, [], _∷_}
 use mathlib.Core.Bool.{true, false}
 use native.Mathlib.Omega.{arith}
@@ -8,14 +8,17 @@ use lib.ListN.{length}
 use lib.Dec.{leb}
 use borrow.Author.Tests.{le-leb, lt-leb, leb-true}
 use Rattle.answer.proofs.Tests.{and-both}
+use Rattle.plan.specs.declared.Segment.{Segment}
 use Rattle.plan.specs.declared.Template.{Template}
 use Rattle.plan.specs.Rules.{staticLimit}
 use Rattle.plan.specs.Shapes.{Piece, pieceEnd, window, segmentAt, shapeOf}
+use Rattle.lent_plan.specs.declared.Head.{Head}
+use Rattle.lent_plan.specs.Lent.{headOf}
 use Rattle.template.specs.Pieces.{staticSize, lastEnd}
 use Rattle.template.specs.Sound.{Ascends}
 use Rattle.template.specs.Datagrams.{sumEnd, reaches}
 use Rattle.template.specs.Usable.{UsableTemplate, piecesOf}
-use Rattle.template.proofs.Steps.{segmentEnd, piecesFrom, window-length, pieces-all, pieces-step, pieces-done}
+use Rattle.template.proofs.Steps.{segmentEnd, piecesFrom, window-length, pieces-all, pieces-step, pieces-done, sum-facts}
 
 -- ascending pieces lie one behind the other, within the limit
 pub static-end : (ps : List Piece) (pos : ℕ) → Ascends pos ps → pos + staticSize ps ≤ lastEnd pos ps
@@ -30,6 +33,14 @@ end-limit (s ∷ ss) pos a = end-limit ss (pieceEnd s) (a .1)
 
 pub static-limit : (t : Template) → UsableTemplate t → staticSize (piecesOf t) ≤ staticLimit
 static-limit t u = omega (arith, static-end (piecesOf t) 0 (u .sound .ascends), end-limit (piecesOf t) 0 (u .sound .ascends))
+
+-- a segment that was read ends within the limit
+pub segment-within : (t : Template) → UsableTemplate t → (j : ℕ) {s : Segment} → j < t .count → s ≡ segmentAt t j → s .offset + s .length ≤ staticLimit
+segment-within t u j h e = rw e (u .within j h)
+
+-- and so does a field
+pub field-within : (t : Template) → UsableTemplate t → {head : Head} → head ≡ headOf t → head .checksum ≡ true → head .field + 2 ≤ staticLimit
+field-within t u q e = rw q (sum-facts t (u .sound) (rw q at e) .high)
 
 module _ (t : Template) (j n : ℕ) (h : j < n) where
   pub static-step : staticSize (piecesFrom t j (n - j)) ≡ segmentAt t j .length + staticSize (piecesFrom t (j + 1) (n - (j + 1)))
@@ -61,14 +72,13 @@ last-from t (suc m) j pos =
     let e : j + suc m ≡ suc j + m = omega arith in
     rw e (last-from t m (suc j) (pieceEnd (record { offset = segmentAt t j .offset; bytes = window (t .bytes) (segmentAt t j .offset) (segmentAt t j .length) })))
 
-pub last-end : (t : Template) (n : ℕ) → n ≡ t .count → 0 < n → lastEnd 0 (piecesOf t) ≡ segmentEnd t (n - 1)
-last-end t n q h =
-    let e : t .count - 0 ≡ suc (n - 1) = omega arith in
-    ap (lastEnd 0) (pieces-all t ∙ ap (piecesFrom t 0) e) ∙ last-from t (n - 1) 0 0 ∙ ap (segmentEnd t) (omega arith)
+pub last-end : (t : Template) {n : ℕ} {s : Segment} → n ≡ t .count → 0 < n → s ≡ segmentAt t (n - 1) → s .offset + s .length ≡ lastEnd 0 (piecesOf t)
+last-end t {n} q h e =
+    let k : t .count - 0 ≡ suc (n - 1) = omega arith in
+    rw e (sym (ap (lastEnd 0) (pieces-all t ∙ ap (piecesFrom t 0) k) ∙ last-from t (n - 1) 0 0 ∙ ap (segmentEnd t) (omega arith)))
 
-pub last-none : (t : Template) (n : ℕ) → n ≡ t .count → n ≡ 0 → lastEnd 0 (piecesOf t) ≡ 0
-last-none t n q h =
-    ap (lastEnd 0) (pieces-all t ∙ pieces-done t 0 (t .count) (omega arith))
+pub last-none : (t : Template) {n : ℕ} → n ≡ t .count → n ≡ 0 → 0 ≡ lastEnd 0 (piecesOf t)
+last-none t q h = sym (ap (lastEnd 0) (pieces-all t ∙ pieces-done t 0 (t .count) (omega arith)))
 
 -- whether bytes reach
 module _ (t : Template) (v : List ℕ) where
@@ -76,13 +86,13 @@ module _ (t : Template) (v : List ℕ) where
   unfolding reaches
   reaches-short h = rw (lt-leb _ _ h)
 
-  pub reaches-sum : lastEnd 0 (piecesOf t) ≤ staticSize (piecesOf t) + length v → t .checksum ≡ true → reaches (shapeOf t) v ≡ leb (t .field + 2) (staticSize (piecesOf t) + length v)
+  pub reaches-sum : {head : Head} → head ≡ headOf t → lastEnd 0 (piecesOf t) ≤ staticSize (piecesOf t) + length v → head .checksum ≡ true → reaches (shapeOf t) v ≡ leb (head .field + 2) (staticSize (piecesOf t) + length v)
   unfolding reaches shapeOf
-  reaches-sum h e = rw (le-leb _ _ h, e)
+  reaches-sum q h e = rw q (rw (le-leb _ _ h, rw q at e))
 
-  pub reaches-plain : lastEnd 0 (piecesOf t) ≤ staticSize (piecesOf t) + length v → t .checksum ≡ false → reaches (shapeOf t) v ≡ true
+  pub reaches-plain : {head : Head} → head ≡ headOf t → lastEnd 0 (piecesOf t) ≤ staticSize (piecesOf t) + length v → head .checksum ≡ false → reaches (shapeOf t) v ≡ true
   unfolding reaches shapeOf
-  reaches-plain h e = rw (le-leb _ _ h, e) (le-leb 0 (staticSize (piecesOf t) + length v) (omega arith))
+  reaches-plain q h e = rw (le-leb _ _ h, rw q at e) (le-leb 0 (staticSize (piecesOf t) + length v) (omega arith))
 
   pub reaches-end : reaches (shapeOf t) v ≡ true → lastEnd 0 (piecesOf t) ≤ staticSize (piecesOf t) + length v
   unfolding reaches

@@ -1,11 +1,12 @@
 -- The loop of `weave_into`: the packet is written up to pos, past the first j segments, and the bytes v are read up to `at`.
 -- What is written and what is still to be woven together never change. Assumes nothing.
-use Prim.Native.Nat.{ℕ, zero, suc, _+_, _-_, _≤_, _<_}
+use Prim.Native.Nat.{ℕ, _+_, _-_, _≤_, _<_}
 use mathlib.Core.Path.{_≡_, refl, ap, sym, _∙_}
 use mathlib.Core.List.{List, _++_, append-assoc}
 use native.Mathlib.Omega.{arith}
 use lib.ListN.{length, take, drop, length-drop}
-use lib.Seq.{take-all, length-take-le, drop-cons, drop-drop}
+use lib.Seq.{take-all, length-take-le, drop-drop}
+use Rattle.plan.specs.declared.Segment.{Segment}
 use Rattle.plan.specs.declared.Template.{Template}
 use Rattle.plan.specs.Shapes.{window, segmentAt}
 use Rattle.template.specs.Pieces.{weave, staticSize, lastEnd}
@@ -15,12 +16,6 @@ use Rattle.template.proofs.PieceLaws.{length-weave}
 use Rattle.template.proofs.Steps.{segmentEnd, piecesFrom, window-length, pieces-all, pieces-step, pieces-done}
 use Rattle.template.proofs.Sizes.{static-end, static-step, static-done, end-step, ascends-head, ascends-tail}
 use Rattle.template.proofs.Writing.{wrote-take}
-
-window-take : (im : List ℕ) (k n : ℕ) → k + n ≤ length im → window im k n ≡ take n (drop k im)
-window-take im k zero h = refl
-window-take im k (suc n) h =
-    let l : k < length im = omega arith in
-    rw (drop-cons im k 0 l, window-take im (suc k) n (omega arith))
 
 weave-step : (t : Template) (j n : ℕ) → j < n → (pos : ℕ) (w : List ℕ) → weave pos (piecesFrom t j (n - j)) w ≡ take (segmentAt t j .offset - pos) w ++ (window (t .bytes) (segmentAt t j .offset) (segmentAt t j .length) ++ weave (segmentEnd t j) (piecesFrom t (j + 1) (n - (j + 1))) (drop (segmentAt t j .offset - pos) w))
 unfolding weave
@@ -49,52 +44,50 @@ module _ (t : Template) (v out₀ : List ℕ) (ready : Weavable t v out₀) wher
       }
 
   module _ {out : List ℕ} {pos at j : ℕ} (i : Weaving t v out₀ out pos at j) where
-    -- before a segment
-    pub record Ready : Type 0 where
-      pub upward : pos ≤ segmentAt t j .offset
-      pub enough : at + (segmentAt t j .offset - pos) ≤ length v
-      pub room : segmentEnd t j ≤ length out
+    -- the segment that is put next
+    pub record Ready (s : Segment) : Type 0 where
+      pub upward : pos ≤ s .offset
+      pub enough : at + (s .offset - pos) ≤ length v
+      pub room : s .offset + s .length ≤ length out
 
-    pub weaving-ready : j < t .count → Ready
-    weaving-ready h =
-        let u = ascends-head t j (t .count) h pos (i .up) in
-        let ps = piecesFrom t (j + 1) (t .count - (j + 1)) in
-        let e = end-step t j (t .count) h pos in
-        let s = static-step t j (t .count) h in
-        let a : segmentEnd t j + staticSize ps ≤ lastEnd (segmentEnd t j) ps = static-end ps (segmentEnd t j) (ascends-tail t j (t .count) h pos (i .up)) in
-        record { upward = u; enough = omega (arith, i .reach); room = omega (arith, i .reach, i .total, i .same, ready .room) }
+    module _ {s : Segment} (h : j < t .count) (q : s ≡ segmentAt t j) where
+      pub weaving-ready : Ready s
+      weaving-ready =
+          let u = ascends-head t j (t .count) h pos (i .up) in
+          let ps = piecesFrom t (j + 1) (t .count - (j + 1)) in
+          let e = end-step t j (t .count) h pos in
+          let f = static-step t j (t .count) h in
+          let a : segmentEnd t j + staticSize ps ≤ lastEnd (segmentEnd t j) ps = static-end ps (segmentEnd t j) (ascends-tail t j (t .count) h pos (i .up)) in
+          rw q (record { upward = u; enough = omega (arith, i .reach); room = omega (arith, i .reach, i .total, i .same, ready .room) })
 
-    pub weaving-more : {out₁ out₂ : List ℕ} {r₁ r : ℕ} → j < t .count → segmentEnd t j ≤ length (t .bytes)
-        → Wrote (take (at + (segmentAt t j .offset - pos) - at) (drop at v)) pos out out₁ r₁ → length out₁ ≡ length out
-        → Wrote (take (segmentEnd t j - segmentAt t j .offset) (drop (segmentAt t j .offset) (t .bytes))) (segmentAt t j .offset) out₁ out₂ r → length out₂ ≡ length out₁
-        → Weaving t v out₀ out₂ r (at + (segmentAt t j .offset - pos)) (j + 1)
-    weaving-more {out₁} {out₂} {r₁} {r} h image w₁ l₁ w₂ l₂ =
-        let o = segmentAt t j .offset in
-        let m = segmentAt t j .length in
-        let g = weaving-ready h in
-        let ps = piecesFrom t (j + 1) (t .count - (j + 1)) in
-        let e = end-step t j (t .count) h pos in
-        let s = static-step t j (t .count) h in
-        let k₁ : pos ≤ length out = omega (arith, g .room, g .upward) in
-        let k₂ : o ≤ length out₁ = omega (arith, g .room) in
-        let d₁ : at + (o - pos) - at ≡ o - pos = omega arith in
-        let d₂ : segmentEnd t j - o ≡ m = omega arith in
-        let n₁ = length-take-le (at + (o - pos) - at) (drop at v) (omega (arith, length-drop at v, g .enough)) in
-        let n₂ = length-take-le (segmentEnd t j - o) (drop o (t .bytes)) (omega (arith, length-drop o (t .bytes))) in
-        let q₁ : r₁ ≡ o = omega (arith, w₁ .size, g .upward) in
-        let q : r ≡ segmentEnd t j = omega (arith, w₂ .size) in
-        let f₁ : take o out₁ ≡ take pos out ++ take (at + (o - pos) - at) (drop at v) = ap (λ (n : ℕ). take n out₁) (sym q₁) ∙ wrote-take w₁ k₁ in
-        record {
-          turn = omega arith;
-          inside = g .enough;
-          same = l₂ ∙ l₁ ∙ i .same;
-          up = rw q (ascends-tail t j (t .count) h pos (i .up));
-          reach = rw q (omega (arith, i .reach, g .enough, g .upward));
-          total = rw q (omega (arith, i .total, g .enough, g .upward));
-          front =
-              rw (wrote-take w₂ k₂, f₁, q, d₁, d₂, append-assoc, append-assoc, ← window-take (t .bytes) o m image, ← drop-drop (o - pos) at v, ← weave-step t j (t .count) h pos (drop at v))
-              (i .front);
-        }
+      pub weaving-more : {out₁ out₂ : List ℕ} {r : ℕ} → Wrote (take (at + (s .offset - pos) - at) (drop at v)) pos out out₁ r → length out₁ ≡ length out
+          → Wrote (window (t .bytes) (s .offset) (s .offset + s .length - s .offset)) (s .offset) out₁ out₂ (s .offset + s .length) → length out₂ ≡ length out₁
+          → Weaving t v out₀ out₂ (s .offset + s .length) (at + (s .offset - pos)) (j + 1)
+      weaving-more {out₁} {out₂} {r} w₁ l₁ w₂ l₂ =
+          let o = s .offset in
+          let m = s .length in
+          let g = weaving-ready in
+          let ps = piecesFrom t (j + 1) (t .count - (j + 1)) in
+          let e : lastEnd pos (piecesFrom t j (t .count - j)) ≡ lastEnd (o + m) ps = rw q (end-step t j (t .count) h pos) in
+          let f : staticSize (piecesFrom t j (t .count - j)) ≡ m + staticSize ps = rw q (static-step t j (t .count) h) in
+          let k₁ : pos ≤ length out = omega (arith, g .room, g .upward) in
+          let k₂ : o ≤ length out₁ = omega (arith, g .room) in
+          let d₁ : at + (o - pos) - at ≡ o - pos = omega arith in
+          let d₂ : o + m - o ≡ m = omega arith in
+          let n₁ = length-take-le (at + (o - pos) - at) (drop at v) (omega (arith, length-drop at v, g .enough)) in
+          let q₁ : r ≡ o = omega (arith, w₁ .size, g .upward) in
+          let f₁ : take o out₁ ≡ take pos out ++ take (at + (o - pos) - at) (drop at v) = ap (λ (n : ℕ). take n out₁) (sym q₁) ∙ wrote-take w₁ k₁ in
+          record {
+            turn = omega arith;
+            inside = g .enough;
+            same = l₂ ∙ l₁ ∙ i .same;
+            up = rw q (ascends-tail t j (t .count) h pos (i .up));
+            reach = omega (arith, i .reach, g .enough, g .upward);
+            total = omega (arith, i .total, g .enough, g .upward);
+            front =
+                rw (wrote-take w₂ k₂, f₁, d₁, d₂, append-assoc, append-assoc, ← drop-drop (o - pos) at v, q, ← weave-step t j (t .count) h pos (drop at v))
+                (i .front);
+          }
 
     pub last-room : t .count ≤ j → pos + (length v - at) ≤ length out
     last-room h = omega (arith, i .total, i .same, ready .room, static-done t j (t .count) h)

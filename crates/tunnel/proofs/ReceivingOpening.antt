@@ -15,6 +15,7 @@ use Rattle.varint.specs.declared.NumberRead.the-variants.{Whole}
 use Rattle.varint.specs.Numbers.{readNumber}
 use Rattle.plan.specs.declared.Template.{Template}
 use Rattle.plan.specs.declared.Plan.{Plan}
+use Rattle.plan.specs.Rules.{maxTemplates}
 use Rattle.plan.specs.Shapes.{Shape, shapeOf, templateAt}
 use Rattle.template.specs.declared.Found.{Found}
 use Rattle.template.specs.declared.Found.the-variants.{At, Nothing}
@@ -123,7 +124,7 @@ module _ (plan : Plan) (c : Choice) {r : Found} (k : Chosen plan c r) where
     pub found-below : i < plan .count
     found-below = rw e at (k .within)
 
-    pub found-few : Usable plan → i < 8
+    pub found-few : Usable plan → i < maxTemplates
     found-few u = omega (arith, found-below, u .few)
 
     pub found-usable : Usable plan → UsableTemplate (templateAt plan i)

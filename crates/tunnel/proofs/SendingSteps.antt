@@ -4,7 +4,7 @@ use mathlib.Core.Path.{_≡_, refl, sym, ap, _∙_}
 use mathlib.Core.List.{List, [], _∷_, _++_, append-assoc}
 use native.Mathlib.Nat.{not-suc-le-zero}
 use native.Mathlib.Omega.{arith}
-use lib.ListN.{length, take, drop, set, length-set, length-append, length-drop}
+use lib.ListN.{length, take, drop, getD, set, length-set, length-append, length-drop}
 use lib.Seq.{take-at, take-length, drop-drop}
 use borrow.Rule.Slice.PartMut.{putMid}
 use Rattle.octets.proofs.Parts.{tail, put-tail}
@@ -25,6 +25,8 @@ use Rattle.grant.specs.declared.Grants.{Grants}
 use Rattle.plan.specs.declared.Plan.{Plan}
 use Rattle.plan.specs.declared.Template.{Template}
 use Rattle.plan.specs.Shapes.{shapeOf, templateAt, shapesOf}
+use Rattle.lent_plan.specs.declared.Head.{Head}
+use Rattle.lent_plan.specs.Lent.{headOf, lentPlan}
 use Rattle.template.specs.declared.Found.{Found}
 use Rattle.template.specs.declared.Found.the-variants.{At, Nothing}
 use Rattle.template.specs.Pieces.{strip}
@@ -97,35 +99,39 @@ wrote-id v out {r} {after} {k} g h w e =
     record { size = omega (arith, s); written = d .1 ∙ ap (λ (n : ℕ). encode v ++ drop n out) (sym s) }
 
 -- the ID of a usable template is a number that can be written
-pub id-below : (t : Template) → UsableTemplate t → t .id .0 < limit
+pub id-below : (t : Template) {h : Head} → h ≡ headOf t → UsableTemplate t → h .id .0 < limit
 unfolding shapeOf
-id-below t u = u .sound .below
+id-below t k u = rw k (u .sound .below)
 
 module _ (t : Template) (p out : List ℕ) (s : Shortable t p out) where
   pub short-seedable : Seedable t p
   short-seedable = fits-seedable t p (s .usable) (s .fit) (s .testable)
 
-  module _ {q out₁ : List ℕ} {at : ℕ} (w : Wrote (encode (t .id .0)) 0 out out₁ at) (e : q ≡ seeded (shapeOf t .sum) p) where
+  module _ {h : Head} {q out₁ : List ℕ} {at : ℕ} (k : h ≡ headOf t) (w : Wrote (encode (h .id .0)) 0 out out₁ at) (e : q ≡ seeded (shapeOf t .sum) p) where
     most : at ≤ room
-    most = omega (arith, w .size, length-encode (t .id .0), size-bounds (t .id .0) .1)
+    most = omega (arith, w .size, length-encode (h .id .0), size-bounds (h .id .0) .1)
 
     pub short-shortenable : Shortenable t q out₁ at
     short-shortenable =
-        let k : length out₁ ≡ length out = wrote-kept w (omega (arith, most, s .space)) in
-        let r : at + length p ≤ length out₁ = omega (arith, most, s .space, k) in
+        let l : length out₁ ≡ length out = wrote-kept w (omega (arith, most, s .space)) in
+        let r : at + length p ≤ length out₁ = omega (arith, most, s .space, l) in
         rw e (fits-shortenable t p (s .usable) (s .fit) out₁ at r)
 
     pub wrote-short : {out₂ : List ℕ} {r : ℕ} → Wrote (strip 0 (piecesOf t) q) at out₁ out₂ r → Wrote (shortForm (shapeOf t) p) 0 out out₂ r
     unfolding shortForm shapeOf
-    wrote-short f = wrote-then w (wrote-as (ap (strip 0 (piecesOf t)) e) f)
+    wrote-short f = wrote-then (wrote-as (ap (λ (x : Head). encode (x .id .0)) k) w) (wrote-as (ap (strip 0 (piecesOf t)) e) f)
 
 -- ---- the form that is chosen
 
 -- where there are no templates, none is chosen
-pub chosen-none : (plan : Plan) (p : List ℕ) → plan .count ≤ 0 → Chosen plan (firstFit (shapesOf plan) p) Nothing
+chosen-none : (plan : Plan) (p : List ℕ) → plan .count ≤ 0 → Chosen plan (firstFit (shapesOf plan) p) Nothing
 chosen-none plan p h =
     let e : firstFit (shapesOf plan) p ≡ full = ap (λ l. firstFit l p) (shapes-all plan) ∙ find-done plan p 0 (plan .count) h in
     record { choice = sym e; within = tt }
+
+pub lent-none : (w p : List ℕ) → getD w 0 0 ≡ 0 → Chosen (lentPlan w) (firstFit (shapesOf (lentPlan w)) p) Nothing
+unfolding lentPlan
+lent-none w p e = chosen-none (lentPlan w) p (omega (arith, e))
 
 pub chosen-as : {plan : Plan} {c : Choice} {r q : Found} → r ≡ q → Chosen plan c r → Chosen plan c q
 chosen-as e f = rw e at f

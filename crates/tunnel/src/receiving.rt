@@ -4,19 +4,20 @@ use answer::Answer;
 use answer::Refusal;
 use answer::Verdict;
 use grant::Grants;
+use lent_plan::PLAN_WORDS;
 use lists::ADDRESS_WORDS;
 use lists::ROUTE_WORDS;
 use plan::ContextId;
-use plan::Plan;
-use plan::Template;
 use template::Found;
 use template::MAX_PACKET;
 use varint::NumberRead;
 ghost use mathlib.Core.Path.{_≡_};
-ghost use Prim.Native.Nat.{_≤_};
+ghost use Prim.Native.Nat.{_≤_, _<_};
 ghost use lib.ListN.{length};
 ghost use Rattle.answer.specs.Verdict.{Writes, firstOf};
-ghost use Rattle.plan.specs.Shapes.{shapeOf, shapesOf};
+ghost use Rattle.plan.specs.Rules.{maxTemplates};
+ghost use Rattle.plan.specs.Shapes.{shapeOf, shapesOf, templateAt};
+ghost use Rattle.lent_plan.specs.Lent.{lentPlan};
 ghost use Rattle.template.specs.Fits.{short, withId};
 ghost use Rattle.template.specs.Datagrams.{withinLimit, openShort, opened};
 ghost use Rattle.template.specs.Usable.{UsableTemplate, Usable};
@@ -30,8 +31,13 @@ pub enum OpenRead {
 }
 
 // Writes the packet that a datagram stands for to the front of out.
-pub fn receive(grants: Grants, plan: Plan, datagram: &[u8], out: &mut [u8]) -> Answer
-    ensures { λ r. ⌜ Writes (receiveVerdict grants plan (now (datagram .entry)) (length (now (out .entry)))) (receivedBytes plan (now (datagram .entry))) (now (out .entry)) r (now (out .exit)) ⌝ }
+pub fn receive<'a>(
+    grants: Grants,
+    plan: &'a [u64; PLAN_WORDS],
+    datagram: &'a [u8],
+    out: &mut [u8],
+) -> Answer
+    ensures { λ r. ⌜ Writes (receiveVerdict grants (lentPlan (now (plan .entry))) (now (datagram .entry)) (length (now (out .entry)))) (receivedBytes (lentPlan (now (plan .entry))) (now (datagram .entry))) (now (out .entry)) r (now (out .exit)) ⌝ }
 {
     let received_addresses = grants.received_addresses;
     let received_routes = grants.received_routes;
@@ -44,17 +50,17 @@ pub fn receive(grants: Grants, plan: Plan, datagram: &[u8], out: &mut [u8]) -> A
     receive_over(&a, &b, &c, &d, plan, datagram, out)
 }
 
-// The same with the lists lent: no packet pays for a copy of them.
+// The same with the lists lent too: no packet pays for a copy of them.
 pub fn receive_over<'a>(
     received_addresses: &'a [u64; ADDRESS_WORDS],
     received_routes: &'a [u64; ROUTE_WORDS],
     given_addresses: &'a [u64; ADDRESS_WORDS],
     given_routes: &'a [u64; ROUTE_WORDS],
-    plan: Plan,
+    plan: &'a [u64; PLAN_WORDS],
     datagram: &'a [u8],
     out: &mut [u8],
 ) -> Answer
-    ensures { λ r. ⌜ Writes (receiveVerdict (grantsOf (now («received_addresses» .entry)) (now («received_routes» .entry)) (now («given_addresses» .entry)) (now («given_routes» .entry))) plan (now (datagram .entry)) (length (now (out .entry)))) (receivedBytes plan (now (datagram .entry))) (now (out .entry)) r (now (out .exit)) ⌝ }
+    ensures { λ r. ⌜ Writes (receiveVerdict (grantsOf (now («received_addresses» .entry)) (now («received_routes» .entry)) (now («given_addresses» .entry)) (now («given_routes» .entry))) (lentPlan (now (plan .entry))) (now (datagram .entry)) (length (now (out .entry)))) (receivedBytes (lentPlan (now (plan .entry))) (now (datagram .entry))) (now (out .entry)) r (now (out .exit)) ⌝ }
 {
     let room = out.len();
     let v = state_verdict(
@@ -91,10 +97,10 @@ fn state_verdict<'a>(
     received_routes: &'a [u64; ROUTE_WORDS],
     given_addresses: &'a [u64; ADDRESS_WORDS],
     given_routes: &'a [u64; ROUTE_WORDS],
-    plan: Plan,
+    plan: &'a [u64; PLAN_WORDS],
     room: usize,
 ) -> Verdict
-    ensures { λ r. ⌜ r ≡ firstOf (receiveTests (grantsOf (now («received_addresses» .entry)) (now («received_routes» .entry)) (now («given_addresses» .entry)) (now («given_routes» .entry))) plan room) ⌝ }
+    ensures { λ r. ⌜ r ≡ firstOf (receiveTests (grantsOf (now («received_addresses» .entry)) (now («received_routes» .entry)) (now («given_addresses» .entry)) (now («given_routes» .entry))) (lentPlan (now (plan .entry))) room) ⌝ }
 {
     if room < RECEIVE_ROOM {
         return Verdict::Stop(Refusal::NoRoom);
@@ -107,16 +113,16 @@ fn state_verdict<'a>(
     ) {
         return Verdict::Stop(Refusal::BrokenState);
     }
-    if !plan::plan_sound(plan) {
+    if !lent_plan::lent_sound(plan) {
         return Verdict::Stop(Refusal::BrokenState);
     }
     Verdict::Go
 }
 
 // Puts the packet that a datagram stands for at the front of image.
-fn open(plan: Plan, datagram: &[u8], image: &mut [u8; MAX_PACKET]) -> OpenRead
-    requires { ⌜ Usable plan ⌝ }
-    ensures { λ r. ⌜ Opens (opened (shapesOf plan) (now (datagram .entry))) r (now (image .exit)) ⌝ }
+fn open(plan: &[u64; PLAN_WORDS], datagram: &[u8], image: &mut [u8; MAX_PACKET]) -> OpenRead
+    requires { ⌜ Usable (lentPlan (now plan)) ⌝ }
+    ensures { λ r. ⌜ Opens (opened (shapesOf (lentPlan (now (plan .entry)))) (now (datagram .entry))) r (now (image .exit)) ⌝ }
 {
     let read = varint::read(datagram);
     match read {
@@ -144,32 +150,40 @@ fn open_full(body: &[u8], image: &mut [u8; MAX_PACKET]) -> OpenRead
 }
 
 // Another Context ID is that of a template.
-fn open_short(plan: Plan, id: ContextId, body: &[u8], image: &mut [u8; MAX_PACKET]) -> OpenRead
-    requires { ⌜ Usable plan ⌝ }
-    ensures { λ r. ⌜ Opens (openShort (now (body .entry)) (withId (id .0) (shapesOf plan))) r (now (image .exit)) ⌝ }
+fn open_short(
+    plan: &[u64; PLAN_WORDS],
+    id: ContextId,
+    body: &[u8],
+    image: &mut [u8; MAX_PACKET],
+) -> OpenRead
+    requires { ⌜ Usable (lentPlan (now plan)) ⌝ }
+    ensures { λ r. ⌜ Opens (openShort (now (body .entry)) (withId (id .0) (shapesOf (lentPlan (now (plan .entry)))))) r (now (image .exit)) ⌝ }
 {
     let found = template::search::find_id(plan, id);
     match found {
         Found::Nothing => OpenRead::Refused(Refusal::UnknownContext),
-        Found::At(i) => {
-            let t = plan.templates[i];
-            open_by(t, body, image)
-        }
+        Found::At(i) => open_by(plan, i, body, image),
     }
 }
 
-// The bytes behind the Context ID of a template.
-fn open_by(t: Template, body: &[u8], image: &mut [u8; MAX_PACKET]) -> OpenRead
-    requires { ⌜ UsableTemplate t ⌝ }
-    ensures { λ r. ⌜ Opens (openShort (now (body .entry)) (short (shapeOf t))) r (now (image .exit)) ⌝ }
+// The bytes behind the Context ID of template i.
+fn open_by(
+    plan: &[u64; PLAN_WORDS],
+    i: usize,
+    body: &[u8],
+    image: &mut [u8; MAX_PACKET],
+) -> OpenRead
+    requires { ⌜ i < maxTemplates ⌝ }
+    requires { ⌜ UsableTemplate (templateAt (lentPlan (now plan)) i) ⌝ }
+    ensures { λ r. ⌜ Opens (openShort (now (body .entry)) (short (shapeOf (templateAt (lentPlan (now (plan .entry))) i)))) r (now (image .exit)) ⌝ }
 {
-    if !template::body::reaches(t, body) {
+    if !template::body::reaches(plan, i, body) {
         return OpenRead::Refused(Refusal::CutDatagram);
     }
-    if MAX_PACKET < template::body::rebuilt_length(t, body) {
+    if MAX_PACKET < template::body::rebuilt_length(plan, i, body) {
         return OpenRead::Refused(Refusal::PacketTooLong);
     }
-    let n = template::body::rebuild(t, body, image);
+    let n = template::body::rebuild(plan, i, body, image);
     OpenRead::Packet(n)
 }
 

@@ -7,11 +7,11 @@ use grant::Grants;
 use inet::lower::lower_into;
 use inet::packet::form;
 use inet::packet::hops;
+use lent_plan::PLAN_WORDS;
+use lent_plan::head_at;
+use lent_plan::lent_sound;
 use lists::ADDRESS_WORDS;
 use lists::ROUTE_WORDS;
-use plan::Plan;
-use plan::Template;
-use plan::plan_sound;
 use template::Found;
 use template::MAX_PACKET;
 use template::body::shorten;
@@ -23,15 +23,22 @@ ghost use lib.ListN.{length};
 ghost use Rattle.answer.specs.Verdict.{Writes};
 ghost use Rattle.varint.specs.Numbers.{limit, room, encode};
 ghost use Rattle.inet.specs.Packet.{lowered};
-ghost use Rattle.plan.specs.Shapes.{shapeOf, shapesOf};
+ghost use Rattle.plan.specs.Rules.{maxTemplates};
+ghost use Rattle.plan.specs.Shapes.{shapeOf, shapesOf, templateAt};
+ghost use Rattle.lent_plan.specs.Lent.{lentPlan};
 ghost use Rattle.template.specs.Datagrams.{shortForm, fullForm, datagram};
 ghost use Rattle.template.specs.Usable.{Wrote};
 ghost use Rattle.tunnel.specs.Tunnel.{grantsOf, sendVerdict, sentBytes};
 ghost use Rattle.tunnel.specs.Sending.{Sendable, Puttable, Shortable};
 
 // Sends a packet: the datagram goes to the front of out.
-pub fn send(grants: Grants, plan: Plan, packet: &[u8], out: &mut [u8]) -> Answer
-    ensures { λ r. ⌜ Writes (sendVerdict grants plan (now (packet .entry)) (length (now (out .entry)))) (sentBytes plan (now (packet .entry))) (now (out .entry)) r (now (out .exit)) ⌝ }
+pub fn send<'a>(
+    grants: Grants,
+    plan: &'a [u64; PLAN_WORDS],
+    packet: &'a [u8],
+    out: &mut [u8],
+) -> Answer
+    ensures { λ r. ⌜ Writes (sendVerdict grants (lentPlan (now (plan .entry))) (now (packet .entry)) (length (now (out .entry)))) (sentBytes (lentPlan (now (plan .entry))) (now (packet .entry))) (now (out .entry)) r (now (out .exit)) ⌝ }
 {
     let received_addresses = grants.received_addresses;
     let received_routes = grants.received_routes;
@@ -44,17 +51,17 @@ pub fn send(grants: Grants, plan: Plan, packet: &[u8], out: &mut [u8]) -> Answer
     send_over(&a, &b, &c, &d, plan, packet, out)
 }
 
-// The same with the four lists lent as words, so that no packet pays for a copy.
+// The same with the four lists lent as words too, so that no packet pays for a copy.
 pub fn send_over<'a>(
     received_addresses: &'a [u64; ADDRESS_WORDS],
     received_routes: &'a [u64; ROUTE_WORDS],
     given_addresses: &'a [u64; ADDRESS_WORDS],
     given_routes: &'a [u64; ROUTE_WORDS],
-    plan: Plan,
+    plan: &'a [u64; PLAN_WORDS],
     packet: &'a [u8],
     out: &mut [u8],
 ) -> Answer
-    ensures { λ r. ⌜ Writes (sendVerdict (grantsOf (now («received_addresses» .entry)) (now («received_routes» .entry)) (now («given_addresses» .entry)) (now («given_routes» .entry))) plan (now (packet .entry)) (length (now (out .entry)))) (sentBytes plan (now (packet .entry))) (now (out .entry)) r (now (out .exit)) ⌝ }
+    ensures { λ r. ⌜ Writes (sendVerdict (grantsOf (now («received_addresses» .entry)) (now («received_routes» .entry)) (now («given_addresses» .entry)) (now («given_routes» .entry))) (lentPlan (now (plan .entry))) (now (packet .entry)) (length (now (out .entry)))) (sentBytes (lentPlan (now (plan .entry))) (now (packet .entry))) (now (out .entry)) r (now (out .exit)) ⌝ }
 {
     let room = out.len();
     let v = send_verdict(
@@ -82,11 +89,11 @@ fn send_verdict<'a>(
     received_routes: &'a [u64; ROUTE_WORDS],
     given_addresses: &'a [u64; ADDRESS_WORDS],
     given_routes: &'a [u64; ROUTE_WORDS],
-    plan: Plan,
+    plan: &'a [u64; PLAN_WORDS],
     packet: &'a [u8],
     room: usize,
 ) -> Verdict
-    ensures { λ r. ⌜ r ≡ sendVerdict (grantsOf (now («received_addresses» .entry)) (now («received_routes» .entry)) (now («given_addresses» .entry)) (now («given_routes» .entry))) plan (now (packet .entry)) room ⌝ }
+    ensures { λ r. ⌜ r ≡ sendVerdict (grantsOf (now («received_addresses» .entry)) (now («received_routes» .entry)) (now («given_addresses» .entry)) (now («given_routes» .entry))) (lentPlan (now (plan .entry))) (now (packet .entry)) room ⌝ }
 {
     if room < SEND_ROOM {
         return Verdict::Stop(Refusal::NoRoom);
@@ -100,7 +107,7 @@ fn send_verdict<'a>(
     if !lists_sound {
         return Verdict::Stop(Refusal::BrokenState);
     }
-    if !plan_sound(plan) {
+    if !lent_sound(plan) {
         return Verdict::Stop(Refusal::BrokenState);
     }
     if MAX_PACKET < packet.len() {
@@ -127,9 +134,9 @@ fn send_verdict<'a>(
 }
 
 // Lowers the packet in the image, and writes the datagram of what it is then.
-fn put_datagram(plan: Plan, packet: &[u8], image: &mut [u8], out: &mut [u8]) -> usize
-    requires { ⌜ Sendable plan (now packet) (now image) (now out) ⌝ }
-    ensures { λ r. ⌜ Wrote (datagram (shapesOf plan) (lowered (now (packet .entry)))) 0 (now (out .entry)) (now (out .exit)) r ⌝ }
+fn put_datagram(plan: &[u64; PLAN_WORDS], packet: &[u8], image: &mut [u8], out: &mut [u8]) -> usize
+    requires { ⌜ Sendable (lentPlan (now plan)) (now packet) (now image) (now out) ⌝ }
+    ensures { λ r. ⌜ Wrote (datagram (shapesOf (lentPlan (now (plan .entry)))) (lowered (now (packet .entry)))) 0 (now (out .entry)) (now (out .exit)) r ⌝ }
 {
     lower_into(packet, image);
     let n = packet.len();
@@ -137,20 +144,17 @@ fn put_datagram(plan: Plan, packet: &[u8], image: &mut [u8], out: &mut [u8]) -> 
 }
 
 // Writes the datagram of a packet: short by the first template that fits, else in full. A plan of no templates needs no search.
-fn put_lowered(plan: Plan, image: &mut [u8], out: &mut [u8]) -> usize
-    requires { ⌜ Puttable plan (now image) (now out) ⌝ }
-    ensures { λ r. ⌜ Wrote (datagram (shapesOf plan) (now (image .entry))) 0 (now (out .entry)) (now (out .exit)) r ⌝ }
+fn put_lowered(plan: &[u64; PLAN_WORDS], image: &mut [u8], out: &mut [u8]) -> usize
+    requires { ⌜ Puttable (lentPlan (now plan)) (now image) (now out) ⌝ }
+    ensures { λ r. ⌜ Wrote (datagram (shapesOf (lentPlan (now (plan .entry)))) (now (image .entry))) 0 (now (out .entry)) (now (out .exit)) r ⌝ }
 {
-    if plan.count == 0 {
+    if plan[0] == 0 {
         return put_full(image, out);
     }
     let found = find(plan, image);
     match found {
         Found::Nothing => put_full(image, out),
-        Found::At(i) => {
-            let t = plan.templates[i];
-            put_short(t, image, out)
-        }
+        Found::At(i) => put_short(plan, i, image, out),
     }
 }
 
@@ -164,15 +168,16 @@ fn put_full(image: &[u8], out: &mut [u8]) -> usize
     1 + n
 }
 
-// The short form: the Context ID, then the bytes outside all segments with the seed in the field.
-fn put_short(t: Template, image: &mut [u8], out: &mut [u8]) -> usize
-    requires { ⌜ Shortable t (now image) (now out) ⌝ }
-    ensures { λ r. ⌜ Wrote (shortForm (shapeOf t) (now (image .entry))) 0 (now (out .entry)) (now (out .exit)) r ⌝ }
+// The short form by template i: the Context ID, then the bytes outside all segments with the seed in the field.
+fn put_short(plan: &[u64; PLAN_WORDS], i: usize, image: &mut [u8], out: &mut [u8]) -> usize
+    requires { ⌜ i < maxTemplates ⌝ }
+    requires { ⌜ Shortable (templateAt (lentPlan (now plan)) i) (now image) (now out) ⌝ }
+    ensures { λ r. ⌜ Wrote (shortForm (shapeOf (templateAt (lentPlan (now (plan .entry))) i)) (now (image .entry))) 0 (now (out .entry)) (now (out .exit)) r ⌝ }
 {
-    let id = t.id;
+    let id = head_at(plan, i).id;
     let at = put_id(id.0, out);
-    put_seed(t, image);
-    shorten(t, image, out, at)
+    put_seed(plan, i, image);
+    shorten(plan, i, image, out, at)
 }
 
 fn put_id(id: u64, out: &mut [u8]) -> usize

@@ -1,29 +1,44 @@
 -- The last segment's end is the end of the pieces: `last-end`. Assumes nothing.
 use Prim.Native.Nat.{_-_}
-use mathlib.Core.Path.{refl, sym}
+use mathlib.Core.Path.{_≡_, ap}
 use native.Mathlib.Omega.{arith}
-use Rattle.template.proofs.Sizes.{last-end, last-none}
+use Rattle.plan.specs.declared.Template.{Template}
+use Rattle.plan.specs.Shapes.{templateAt}
+use Rattle.lent_plan.specs.declared.Head.{Head}
+use Rattle.lent_plan.specs.Lent.{lentPlan}
+use Rattle.template.proofs.Sizes.{last-end, last-none, segment-within}
 use borrow.Author.Needs.{needs}
 use Rattle.template.proofs.body.last_end.Statement.{statement}
 use Rattle.template.proofs.body.last_end.Tie as tie
 
+abbrev The : tie.After-head-at → Template
+The c = templateAt (lentPlan (c .before .args .words .now)) (c .before .args .i)
+
+counted : (c : tie.After-head-at) → c .head-at .result .count ≡ The c .count
+counted c = ap (λ (h : Head). h .count) (c .head-at .ensures)
+
+head-at-requires : tie.Need-head-at-requires
+head-at-requires c κs = search needs
+
 returns : tie.Need-returns
-returns c = sym (last-none (c .before .args .t1) _ refl (c .if1 .taken))
+returns c = last-none (The (c .before)) (counted (c .before)) (c .if1 .taken)
 
-sub-s : tie.Need-sub-s
-sub-s c = search needs
+sub-segment-at : tie.Need-sub-segment-at
+sub-segment-at c = search needs
 
-mul-s : tie.Need-mul-s
-mul-s c = search needs
-
-element-copy-out-s : tie.Need-element-copy-out-s
-element-copy-out-s c = search needs
+segment-at-requires : tie.Need-segment-at-requires
+segment-at-requires c κs = let a = c .before in (a .before .pre .0, omega (arith, counted a, a .before .pre .1 .few))
 
 add-result : tie.Need-add-result
-add-result c = omega (arith, c .before .before .before .pre .within (c .before .before .before .args .t1 .count - 1) (omega arith))
+add-result c =
+    let a = c .before .before .before in
+    let n = a .head-at .result .count in
+    omega (arith, segment-within (The a) (a .before .pre .1) (n - 1) (omega (arith, counted a)) (c .before .segment-at .ensures))
 
 returns-2 : tie.Need-returns-2
-returns-2 c = sym (last-end (c .before .before .before .args .t1) _ refl (omega arith))
+returns-2 c = let a = c .before .before .before in last-end (The a) (counted a) (omega arith) (c .before .segment-at .ensures)
 
 pub last-end-spec : {M : Type 1} → statement M
-last-end-spec = tie.close (tie.spec returns sub-s mul-s element-copy-out-s add-result returns-2)
+last-end-spec =
+    tie.close
+    (tie.spec head-at-requires returns sub-segment-at segment-at-requires add-result returns-2)

@@ -1,68 +1,86 @@
 -- The invariant is `Shortening`. Assumes nothing.
-use Prim.Native.Nat.{_-_, _≤_}
-use mathlib.Core.Path.{_∙_}
+use Prim.Native.Nat.{_+_, _-_, _≤_, _<_}
+use mathlib.Core.Path.{_≡_, ap, _∙_}
 use native.Mathlib.Omega.{arith}
 use lib.ListN.{length}
-use Rattle.plan.specs.Shapes.{segmentAt}
+use Rattle.plan.specs.declared.Template.{Template}
+use Rattle.plan.specs.Shapes.{templateAt}
+use Rattle.lent_plan.specs.declared.Head.{Head}
+use Rattle.lent_plan.specs.Lent.{lentPlan}
 use Rattle.template.specs.Usable.{Shortenable}
-use Rattle.template.proofs.Steps.{segmentEnd}
+use Rattle.template.proofs.Sizes.{segment-within}
 use Rattle.template.proofs.Shortening.{Shortening, shortening-none, next-up, next-inside, shortening-more, shortening-done}
+use borrow.Author.Needs.{needs}
 use Rattle.template.proofs.body.shorten.Statement.{statement}
 use Rattle.template.proofs.body.shorten.Tie as tie
 
 abbrev Inv-loop : tie.InvT-loop
-Inv-loop image out₀ at t n pos₀ next₀ j₀ out pos next j = Shortening t image out₀ at out pos next j
+Inv-loop words i image out₀ at n pos₀ next₀ j₀ out pos next j = Shortening (templateAt (lentPlan words) i) image out₀ at out pos next j
 
 abbrev μ-loop : tie.MeasureT-loop
-μ-loop image out₀ at t n pos₀ next₀ j₀ out pos next j = n - j
+μ-loop words i image out₀ at n pos₀ next₀ j₀ out pos next j = n - j
 
-abbrev InLoop : Type 0
-InLoop = tie.In-loop Inv-loop μ-loop
+abbrev Known : Type 0
+Known = tie.After-head-at Inv-loop μ-loop
 
-Ready : (c : InLoop) → Shortenable (c .before .before .before .before .args .t1) (c .before .before .before .before .args .image .now) (c .before .before .before .before .args .out .now) (c .before .before .before .before .args .at)
-Ready c = c .before .before .before .before .pre
+abbrev AtSegment : Type 0
+AtSegment = tie.After-segment-at Inv-loop μ-loop
+
+abbrev The : Known → Template
+The c = templateAt (lentPlan (c .before .before .before .args .words .now)) (c .before .before .before .args .i)
+
+counted : (c : Known) → c .head-at .result .count ≡ The c .count
+counted c = ap (λ (h : Head). h .count) (c .head-at .ensures)
+
+Ready : (c : Known) → Shortenable (The c) (c .before .before .before .args .image .now) (c .before .before .before .args .out .now) (c .before .before .before .args .at)
+Ready c = c .before .before .before .pre .1
 
 -- what holds of the segment at j
-upward : (c : InLoop) → c .before .loop .pos ≤ segmentAt (c .before .before .before .before .args .t1) (c .before .loop .j) .offset
-upward c = next-up _ _ _ _ (Ready c) (c .before .loop .inv) (c .loop-test .taken)
+turn : (c : AtSegment) → c .before .before .loop .j < The (c .before .before .before) .count
+turn c = omega (arith, counted (c .before .before .before), c .before .loop-test .taken)
 
-inward : (c : InLoop) → segmentEnd (c .before .before .before .before .args .t1) (c .before .loop .j) ≤ length (c .before .before .before .before .args .image .now)
-inward c = next-inside _ _ _ _ (Ready c) (c .before .loop .inv) (c .loop-test .taken)
+upward : (c : AtSegment) → c .before .before .loop .pos ≤ c .segment-at .result .offset
+upward c = next-up _ _ _ _ (Ready (c .before .before .before)) (c .before .before .loop .inv) (turn c) (c .segment-at .ensures)
+
+inward : (c : AtSegment) → c .segment-at .result .offset + c .segment-at .result .length ≤ length (c .before .before .before .before .before .before .args .image .now)
+inward c = next-inside _ _ _ _ (Ready (c .before .before .before)) (c .before .before .loop .inv) (turn c) (c .segment-at .ensures)
+
+head-at-requires : tie.Need-head-at-requires Inv-loop μ-loop
+head-at-requires c κs = search needs
 
 loop-holds : tie.Need-loop-holds Inv-loop μ-loop
-loop-holds c = shortening-none _ _ _ _ (c .before .before .pre)
+loop-holds c = shortening-none _ _ _ _ (Ready c)
 
-mul-s : tie.Need-mul-s Inv-loop μ-loop
-mul-s c = omega (arith, c .before .before .before .before .pre .usable .few)
-
-element-copy-out-s : tie.Need-element-copy-out-s Inv-loop μ-loop
-element-copy-out-s c = omega (arith, c .before .before .before .before .pre .usable .few)
+segment-at-requires : tie.Need-segment-at-requires Inv-loop μ-loop
+segment-at-requires c κs = (c .before .before .before .before .before .pre .0, omega (arith, counted (c .before .before), Ready (c .before .before) .usable .few))
 
 copy-range-requires : tie.Need-copy-range-requires Inv-loop μ-loop
-copy-range-requires c κs = let a : InLoop = c .before .before in (upward a, omega (arith, inward a), omega (arith, upward a, inward a, Ready a .room))
+copy-range-requires c κs =
+    let a : AtSegment = c .before in
+    (upward a, omega (arith, inward a), omega (arith, upward a, inward a, a .before .before .loop .inv .behind, a .before .before .loop .inv .same, Ready (a .before .before .before) .room))
 
 add-pos : tie.Need-add-pos Inv-loop μ-loop
-add-pos c = omega (arith, c .before .before .before .before .before .before .before .before .before .before .pre .usable .within (c .before .before .before .before .before .before .before .loop .j) (c .before .before .before .before .before .before .loop-test .taken))
+add-pos c = let a : AtSegment = c .before .before .before .before .before in omega (arith, segment-within _ (Ready (a .before .before .before) .usable) _ (turn a) (a .segment-at .ensures))
 
 add-j : tie.Need-add-j Inv-loop μ-loop
-add-j c = omega (arith, c .before .before .before .before .before .before .before .before .before .before .pre .usable .few)
+add-j c = let a : AtSegment = c .before .before .before .before .before in omega (arith, turn a, Ready (a .before .before .before) .usable .few)
 
 loop-less : tie.Need-loop-less Inv-loop μ-loop
 loop-less c = omega arith
 
 loop-again : tie.Need-loop-again Inv-loop μ-loop
 loop-again c =
-    let a : InLoop = c .before .before .before .before .before .before in
-    shortening-more _ _ _ _ (Ready a) (a .before .loop .inv) (a .loop-test .taken) (c .before .before .before .copy-range .ensures) (c .before .before .before .copy-range .kept .1 .1 .1 .0)
+    let a : AtSegment = c .before .before .before .before .before in
+    shortening-more _ _ _ _ (Ready (a .before .before .before)) (a .before .before .loop .inv) (turn a) (a .segment-at .ensures) (c .before .before .before .copy-range .ensures) (c .before .before .before .copy-range .kept .1 .1 .1 .0)
 
 copy-range-requires-2 : tie.Need-copy-range-requires-2 Inv-loop μ-loop
-copy-range-requires-2 c κs = omega (arith, c .before .before .before .before .before .pre .room)
+copy-range-requires-2 c κs = omega (arith, c .before .before .loop .inv .behind, c .before .before .loop .inv .inside, c .before .before .loop .inv .same, Ready (c .before .before .before) .room)
 
 same-length : tie.Need-same-length Inv-loop μ-loop
 same-length c = c .before .before .copy-range2 .kept .1 .1 .1 .0 ∙ c .before .before .before .before .before .loop .inv .same
 
 returns : tie.Need-returns Inv-loop μ-loop
-returns c = shortening-done _ _ _ _ (c .before .before .before .before .before .before .before .before .pre) (c .before .before .before .before .before .loop .inv) (c .before .before .before .before .loop-test .left) (c .before .before .copy-range2 .ensures) (c .before .before .copy-range2 .kept .1 .1 .1 .0)
+returns c = shortening-done _ _ _ _ (Ready (c .before .before .before .before .before .before)) (c .before .before .before .before .before .loop .inv) (omega (arith, counted (c .before .before .before .before .before .before), c .before .before .before .before .loop-test .left)) (c .before .before .copy-range2 .ensures) (c .before .before .copy-range2 .kept .1 .1 .1 .0)
 
 pub shorten-spec : {M : Type 1} → statement M
 shorten-spec =
@@ -70,9 +88,9 @@ shorten-spec =
     (tie.spec
     Inv-loop
     μ-loop
+    head-at-requires
     loop-holds
-    mul-s
-    element-copy-out-s
+    segment-at-requires
     copy-range-requires
     add-pos
     add-j

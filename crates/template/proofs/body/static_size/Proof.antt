@@ -2,42 +2,62 @@
 use Prim.Native.Nat.{_+_, _-_, _≤_}
 use mathlib.Core.Path.{_≡_, ap}
 use native.Mathlib.Omega.{arith}
+use Rattle.plan.specs.declared.Segment.{Segment}
+use Rattle.plan.specs.declared.Template.{Template}
+use Rattle.plan.specs.Shapes.{templateAt}
+use Rattle.lent_plan.specs.declared.Head.{Head}
+use Rattle.lent_plan.specs.Lent.{lentPlan}
 use Rattle.template.specs.Pieces.{staticSize}
 use Rattle.template.specs.Usable.{piecesOf}
 use Rattle.template.proofs.Steps.{piecesFrom, pieces-all}
 use Rattle.template.proofs.Sizes.{static-limit, static-step, static-done}
+use borrow.Author.Needs.{needs}
 use Rattle.template.proofs.body.static_size.Statement.{statement}
 use Rattle.template.proofs.body.static_size.Tie as tie
 
 abbrev Inv-loop : tie.InvT-loop
-Inv-loop t n size₀ j₀ size j = (j ≤ n) × (size + staticSize (piecesFrom t j (n - j)) ≡ staticSize (piecesOf t))
+Inv-loop words i n size₀ j₀ size j =
+    (j ≤ n) × (size + staticSize (piecesFrom (templateAt (lentPlan words) i) j (n - j)) ≡ staticSize (piecesOf (templateAt (lentPlan words) i)))
 
 abbrev μ-loop : tie.MeasureT-loop
-μ-loop t n size₀ j₀ size j = n - j
+μ-loop words i n size₀ j₀ size j = n - j
+
+abbrev Known : Type 0
+Known = tie.After-head-at Inv-loop μ-loop
+
+abbrev The : Known → Template
+The c = templateAt (lentPlan (c .before .args .words .now)) (c .before .args .i)
+
+counted : (c : Known) → c .head-at .result .count ≡ The c .count
+counted c = ap (λ (h : Head). h .count) (c .head-at .ensures)
+
+-- one segment more
+step : (c : tie.After-segment-at Inv-loop μ-loop) → staticSize (piecesFrom (The (c .before .before .before)) (c .before .before .loop .j) (c .before .before .before .head-at .result .count - c .before .before .loop .j)) ≡ c .segment-at .result .length + staticSize (piecesFrom (The (c .before .before .before)) (c .before .before .loop .j + 1) (c .before .before .before .head-at .result .count - (c .before .before .loop .j + 1)))
+step c = omega (arith, static-step (The (c .before .before .before)) (c .before .before .loop .j) _ (c .before .loop-test .taken), ap (λ (s : Segment). s .length) (c .segment-at .ensures))
+
+head-at-requires : tie.Need-head-at-requires Inv-loop μ-loop
+head-at-requires c κs = search needs
 
 loop-holds : tie.Need-loop-holds Inv-loop μ-loop
-loop-holds c = (omega arith, omega (arith, ap staticSize (pieces-all (c .args .t1))))
+loop-holds c = (omega arith, rw (counted c) (omega (arith, ap staticSize (pieces-all (The c)))))
 
-mul-s : tie.Need-mul-s Inv-loop μ-loop
-mul-s c = omega (arith, c .before .before .pre .few)
-
-element-copy-out-s : tie.Need-element-copy-out-s Inv-loop μ-loop
-element-copy-out-s c = omega (arith, c .before .before .pre .few)
+segment-at-requires : tie.Need-segment-at-requires Inv-loop μ-loop
+segment-at-requires c κs = (c .before .before .before .pre .0, omega (arith, counted (c .before .before), c .before .before .before .pre .1 .few))
 
 add-size : tie.Need-add-size Inv-loop μ-loop
-add-size c = omega (arith, static-limit _ (c .before .before .before .before .pre), static-step (c .before .before .before .before .args .t1) (c .before .before .before .loop .j) _ (c .before .before .loop-test .taken))
+add-size c = omega (arith, static-limit _ (c .before .before .before .before .before .pre .1), step (c .before))
 
 add-j : tie.Need-add-j Inv-loop μ-loop
-add-j c = omega (arith, c .before .before .before .before .pre .few)
+add-j c = omega (arith, counted (c .before .before .before .before), c .before .before .before .before .before .pre .1 .few)
 
 loop-less : tie.Need-loop-less Inv-loop μ-loop
 loop-less c = omega arith
 
 loop-again : tie.Need-loop-again Inv-loop μ-loop
-loop-again c = (omega arith, omega (arith, static-step (c .before .before .before .before .args .t1) (c .before .before .before .loop .j) _ (c .before .before .loop-test .taken)))
+loop-again c = (omega arith, omega (arith, step (c .before)))
 
 returns : tie.Need-returns Inv-loop μ-loop
-returns c = let e = static-done (c .before .before .args .t1) (c .before .loop .j) _ (c .loop-test .left) in (omega arith, omega (arith, static-limit _ (c .before .before .pre)))
+returns c = let e = static-done (The (c .before .before)) (c .before .loop .j) _ (c .loop-test .left) in (omega arith, omega (arith, static-limit _ (c .before .before .before .pre .1)))
 
 pub static-size-spec : {M : Type 1} → statement M
 static-size-spec =
@@ -45,9 +65,9 @@ static-size-spec =
     (tie.spec
     Inv-loop
     μ-loop
+    head-at-requires
     loop-holds
-    mul-s
-    element-copy-out-s
+    segment-at-requires
     add-size
     add-j
     loop-less

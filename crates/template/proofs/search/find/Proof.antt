@@ -1,51 +1,77 @@
 -- What is left to compare gives the answer of each whole comparison: the bytes of a segment, the segments of a template, the templates of the plan.
--- Assumes nothing.
-use Prim.Native.Nat.{ℕ, _+_, _-_, _≤_}
+-- The lent plan stays closed: a head, a segment and a byte are those of its template by the contracts of their accessors. Assumes nothing.
+use Prim.Native.Nat.{ℕ, _+_, _-_, _≤_, _<_}
 use mathlib.Core.Path.{_≡_, refl, ap, sym, _∙_}
-use mathlib.Core.Bool.{true, false, _&&_}
+use mathlib.Core.Bool.{Bool, true, false, _&&_}
 use mathlib.Core.List.{List}
 use native.Mathlib.Omega.{arith}
-use lib.ListN.{length, drop}
+use lib.ListN.{drop}
 use borrow.Author.Tests.{not-true, not-false}
+use borrow.Author.Needs.{needs}
 use Rattle.plan.specs.declared.Segment.{Segment}
 use Rattle.plan.specs.declared.Template.{Template}
 use Rattle.plan.specs.declared.Plan.{Plan}
-use Rattle.plan.specs.Rules.{staticLimit}
-use Rattle.plan.specs.Shapes.{window, segmentAt, templateAt, shapeOf, shapesOf}
+use Rattle.plan.specs.Rules.{maxTemplates, maxSegments, staticLimit}
+use Rattle.plan.specs.Shapes.{sumAt, window, segmentAt, templateAt, shapeOf, shapesOf}
+use Rattle.lent_plan.specs.declared.Head.{Head}
+use Rattle.lent_plan.specs.Lent.{headOf, lentPlan}
 use Rattle.template.specs.declared.Found.the-variants.{At, Nothing}
 use Rattle.template.specs.Pieces.{begins, fitsPieces}
-use Rattle.template.specs.Fits.{fits, firstFit}
-use Rattle.template.specs.Usable.{UsableTemplate, piecesOf, choiceAt, Chosen}
+use Rattle.template.specs.Fits.{fitsSum, fits, firstFit}
+use Rattle.template.specs.Usable.{UsableTemplate, SumPlace, piecesOf, choiceAt, Chosen}
 use Rattle.template.proofs.Steps.{piecesFrom, pieces-all, fits-short, fits-long, fits-done, begins-same, begins-other, begins-done, unfit-pieces, fit-plain, fit-sum, sum-place, shapesFrom, shapes-all, find-next, find-here, find-done}
 use Rattle.template.proofs.search.find.Statement.{statement}
 use Rattle.template.proofs.search.find.Tie as tie
 
+-- a head that was read stands for its template
+module _ (t : Template) (h : Head) (e : h ≡ headOf t) where
+  pieces-read : piecesOf t ≡ piecesFrom t 0 (h .count - 0)
+  pieces-read = rw e (pieces-all t)
+
+  place-read : UsableTemplate t → h .checksum ≡ true → SumPlace (h .field) (h .start)
+  place-read u f = rw e (sum-place t (u .sound) (sym (ap (λ (x : Head). x .checksum) e) ∙ f))
+
+  plain-read : (p : List ℕ) → fitsPieces (piecesOf t) p ≡ true → h .checksum ≡ false → fits (shapeOf t) p ≡ true
+  plain-read p g f = fit-plain t p g (sym (ap (λ (x : Head). x .checksum) e) ∙ f)
+
+  sum-read : (p : List ℕ) (b : Bool) → fitsPieces (piecesOf t) p ≡ true → h .checksum ≡ true → fitsSum (sumAt (h .field) (h .start)) p ≡ b → fits (shapeOf t) p ≡ b
+  sum-read p b g f s = fit-sum t p b g (sym (ap (λ (x : Head). x .checksum) e) ∙ f) (rw e at s)
+
 abbrev Inv-bytes : tie.InvT-bytes
-Inv-bytes packet plan count answer next i t n j k₀ end k =
+Inv-bytes words packet count answer next i head n j k₀ end k =
+    let t = templateAt (lentPlan words) i in
     (k ≤ end) × (fitsPieces (piecesFrom t j (n - j)) packet ≡ (begins (window (t .bytes) k (end - k)) (drop k packet) && fitsPieces (piecesFrom t (j + 1) (n - (j + 1))) packet))
 
 abbrev μ-bytes : tie.MeasureT-bytes
-μ-bytes packet plan count answer next i t n j k₀ end k = end - k
+μ-bytes words packet count answer next i head n j k₀ end k = end - k
 
 abbrev Inv-segments : tie.InvT-segments
-Inv-segments packet plan count answer next i t n j₀ j = (j ≤ n) × (fitsPieces (piecesOf t) packet ≡ fitsPieces (piecesFrom t j (n - j)) packet)
+Inv-segments words packet count answer next i head n j₀ j =
+    let t = templateAt (lentPlan words) i in
+    (j ≤ n) × (fitsPieces (piecesOf t) packet ≡ fitsPieces (piecesFrom t j (n - j)) packet)
 
 abbrev μ-segments : tie.MeasureT-segments
-μ-segments packet plan count answer next i t n j₀ j = n - j
+μ-segments words packet count answer next i head n j₀ j = n - j
 
 abbrev Inv-templates : tie.InvT-templates
-Inv-templates packet plan count answer₀ next₀ answer next =
-    (answer ≡ Nothing) × (next ≤ count) × (firstFit (shapesOf plan) packet ≡ firstFit (shapesFrom plan next (count - next)) packet)
+Inv-templates words packet count answer₀ next₀ answer next =
+    (answer ≡ Nothing) × (next ≤ count) × (firstFit (shapesOf (lentPlan words)) packet ≡ firstFit (shapesFrom (lentPlan words) next (count - next)) packet)
 
 abbrev μ-templates : tie.MeasureT-templates
-μ-templates packet plan count answer₀ next₀ answer next = count - next
+μ-templates words packet count answer₀ next₀ answer next = count - next
 
 -- the places
 abbrev InTemplates : Type 0
 InTemplates = tie.In-templates Inv-bytes μ-bytes Inv-segments μ-segments Inv-templates μ-templates
 
+abbrev Headed : Type 0
+Headed = tie.After-head-at Inv-bytes μ-bytes Inv-segments μ-segments Inv-templates μ-templates
+
 abbrev InSegments : Type 0
 InSegments = tie.In-segments Inv-bytes μ-bytes Inv-segments μ-segments Inv-templates μ-templates
+
+abbrev Segmented : Type 0
+Segmented = tie.After-segment-at Inv-bytes μ-bytes Inv-segments μ-segments Inv-templates μ-templates
 
 abbrev InBytes : Type 0
 InBytes = tie.In-bytes Inv-bytes μ-bytes Inv-segments μ-segments Inv-templates μ-templates
@@ -56,27 +82,51 @@ AfterSegments = tie.After-segments Inv-bytes μ-bytes Inv-segments μ-segments I
 abbrev Next : InTemplates → ℕ
 Next c = c .before .templates .next
 
+abbrev Count : InTemplates → ℕ
+Count c = c .before .before .count-of .result
+
 abbrev The-plan : InTemplates → Plan
-The-plan c = c .before .before .before .args .t1
+The-plan c = lentPlan (c .before .before .before .before .args .words .now)
 
 abbrev Packet : InTemplates → List ℕ
-Packet c = c .before .before .before .args .packet .now
+Packet c = c .before .before .before .before .args .packet .now
 
 abbrev The : InTemplates → Template
 The c = templateAt (The-plan c) (Next c)
 
-abbrev Seg : InSegments → Segment
-Seg c = segmentAt (The (c .before .before .before)) (c .before .segments .j)
+abbrev Seg : Segmented → Segment
+Seg c = c .segment-at .result
+
+-- the template is in use
+in-use : (c : InTemplates) → Next c < The-plan c .count
+in-use c = omega (arith, c .before .before .count-of .ensures)
+
+in-range : (c : InTemplates) → Next c < maxTemplates
+in-range c = omega (arith, in-use c, c .before .before .before .before .pre .0 .few)
 
 ok : (c : InTemplates) → UsableTemplate (The c)
-ok c = c .before .before .before .pre .0 .all (Next c) (c .templates-test .taken)
+ok c = c .before .before .before .before .pre .0 .all (Next c) (in-use c)
 
-within : (c : InSegments) → Seg c .offset + Seg c .length ≤ staticLimit
-within c = ok (c .before .before .before) .within (c .before .segments .j) (c .segments-test .taken)
+head-few : (c : Headed) → c .head-at .result .count ≤ maxSegments
+head-few c = rw (c .head-at .ensures) (ok (c .before) .few)
+
+-- a segment that was read is the template's
+offset-read : (c : Segmented) → Seg c .offset ≡ segmentAt (The (c .before .before .before .before)) (c .before .before .segments .j) .offset
+offset-read c = ap (λ (s : Segment). s .offset) (c .segment-at .ensures)
+
+length-read : (c : Segmented) → Seg c .length ≡ segmentAt (The (c .before .before .before .before)) (c .before .before .segments .j) .length
+length-read c = ap (λ (s : Segment). s .length) (c .segment-at .ensures)
+
+within : (c : Segmented) → Seg c .offset + Seg c .length ≤ staticLimit
+within c =
+    let s : InSegments = c .before in
+    let h : Headed = s .before .before in
+    let n : h .head-at .result .count ≡ The (h .before) .count = ap (λ (x : Head). x .count) (h .head-at .ensures) in
+    omega (arith, offset-read c, length-read c, ok (h .before) .within (s .before .segments .j) (omega (arith, s .segments-test .taken, n)))
 
 -- after a template that does not fit: the outer invariant again
 passed : (c : InTemplates) → fits (shapeOf (The c)) (Packet c) ≡ false
-    → firstFit (shapesOf (The-plan c)) (Packet c) ≡ firstFit (shapesFrom (The-plan c) (Next c + 1) (The-plan c .count - (Next c + 1))) (Packet c)
+    → firstFit (shapesOf (The-plan c)) (Packet c) ≡ firstFit (shapesFrom (The-plan c) (Next c + 1) (Count c - (Next c + 1))) (Packet c)
 passed c e = c .before .templates .inv .2 ∙ find-next (The-plan c) (Packet c) (Next c) _ (c .templates-test .taken) e
 
 -- all segments are compared
@@ -90,140 +140,116 @@ found : (c : InTemplates) → fits (shapeOf (The c)) (Packet c) ≡ true → Cho
 found c e =
     record {
       choice = sym (c .before .templates .inv .2 ∙ find-here (The-plan c) (Packet c) (Next c) _ (c .templates-test .taken) e);
-      within = c .templates-test .taken;
+      within = in-use c;
     }
 
-templates-holds :
-    tie.Need-templates-holds Inv-bytes μ-bytes Inv-segments μ-segments Inv-templates μ-templates
-templates-holds c = (refl, omega arith, ap (λ l. firstFit l (c .before .args .packet .now)) (shapes-all (c .before .args .t1)))
+count-of-requires : tie.Need-count-of-requires Inv-bytes μ-bytes Inv-segments μ-segments Inv-templates μ-templates
+count-of-requires c κs = search needs
+
+templates-holds : tie.Need-templates-holds Inv-bytes μ-bytes Inv-segments μ-segments Inv-templates μ-templates
+templates-holds c =
+    let a = c .before .before .args in
+    (refl, omega arith, ap (λ l. firstFit l (a .packet .now)) (shapes-all (lentPlan (a .words .now))) ∙ ap (λ (n : ℕ). firstFit (shapesFrom (lentPlan (a .words .now)) 0 (n - 0)) (a .packet .now)) (sym (c .count-of .ensures)))
 
 add-next : tie.Need-add-next Inv-bytes μ-bytes Inv-segments μ-segments Inv-templates μ-templates
 add-next c = omega arith
 
-mul-t : tie.Need-mul-t Inv-bytes μ-bytes Inv-segments μ-segments Inv-templates μ-templates
-mul-t c = omega arith
+head-at-requires : tie.Need-head-at-requires Inv-bytes μ-bytes Inv-segments μ-segments Inv-templates μ-templates
+head-at-requires c κs = in-range c
 
-element-copy-out-t :
-    tie.Need-element-copy-out-t Inv-bytes μ-bytes Inv-segments μ-segments Inv-templates μ-templates
-element-copy-out-t c = omega (arith, c .before .before .before .pre .0 .few)
+segments-holds : tie.Need-segments-holds Inv-bytes μ-bytes Inv-segments μ-segments Inv-templates μ-templates
+segments-holds c = (omega arith, ap (λ l. fitsPieces l (Packet (c .before))) (pieces-read (The (c .before)) (c .head-at .result) (c .head-at .ensures)))
 
-segments-holds :
-    tie.Need-segments-holds Inv-bytes μ-bytes Inv-segments μ-segments Inv-templates μ-templates
-segments-holds c = (omega arith, ap (λ l. fitsPieces l (Packet (c .before))) (pieces-all (The (c .before))))
-
-mul-s : tie.Need-mul-s Inv-bytes μ-bytes Inv-segments μ-segments Inv-templates μ-templates
-mul-s c = omega (arith, ok (c .before .before .before) .few)
-
-element-copy-out-s :
-    tie.Need-element-copy-out-s Inv-bytes μ-bytes Inv-segments μ-segments Inv-templates μ-templates
-element-copy-out-s c = omega (arith, ok (c .before .before .before) .few)
+segment-at-requires : tie.Need-segment-at-requires Inv-bytes μ-bytes Inv-segments μ-segments Inv-templates μ-templates
+segment-at-requires c κs = (in-range (c .before .before .before), omega (arith, head-few (c .before .before)))
 
 add-end : tie.Need-add-end Inv-bytes μ-bytes Inv-segments μ-segments Inv-templates μ-templates
-add-end c = omega (arith, within (c .before .before))
+add-end c = omega (arith, within (c .before))
 
-templates-less :
-    tie.Need-templates-less Inv-bytes μ-bytes Inv-segments μ-segments Inv-templates μ-templates
+templates-less : tie.Need-templates-less Inv-bytes μ-bytes Inv-segments μ-segments Inv-templates μ-templates
 templates-less c = omega arith
 
-templates-again :
-    tie.Need-templates-again Inv-bytes μ-bytes Inv-segments μ-segments Inv-templates μ-templates
+templates-again : tie.Need-templates-again Inv-bytes μ-bytes Inv-segments μ-segments Inv-templates μ-templates
 templates-again c =
-    let s : InSegments = c .before .before .before in
+    let g : Segmented = c .before .before in
+    let s : InSegments = g .before in
     let b : InTemplates = s .before .before .before in (
       b .before .templates .inv .0,
       omega arith,
-      passed b (unfit-pieces (The b) (Packet b) (s .before .segments .inv .1 ∙ fits-short (The b) (Packet b) (s .before .segments .j) _ (s .segments-test .taken) (omega arith))),
+      passed b (unfit-pieces (The b) (Packet b) (s .before .segments .inv .1 ∙ fits-short (The b) (Packet b) (s .before .segments .j) _ (s .segments-test .taken) (omega (arith, offset-read g, length-read g, c .if1 .taken)))),
     )
 
-bytes-holds :
-    tie.Need-bytes-holds Inv-bytes μ-bytes Inv-segments μ-segments Inv-templates μ-templates
+bytes-holds : tie.Need-bytes-holds Inv-bytes μ-bytes Inv-segments μ-segments Inv-templates μ-templates
 bytes-holds c =
-    let s : InSegments = c .before .before .before in
+    let g : Segmented = c .before .before in
+    let s : InSegments = g .before in
     let b : InTemplates = s .before .before .before in
-    (omega arith, fits-long (The b) (Packet b) (s .before .segments .j) _ (s .segments-test .taken) (Seg s .offset) (Seg s .length) refl refl (omega arith))
+    (omega arith, fits-long (The b) (Packet b) (s .before .segments .j) _ (s .segments-test .taken) (Seg g .offset) (Seg g .length) (sym (offset-read g)) (sym (length-read g)) (omega arith))
 
-shared-slice-read-if2 :
-    tie.Need-shared-slice-read-if2
-    Inv-bytes
-    μ-bytes
-    Inv-segments
-    μ-segments
-    Inv-templates
-    μ-templates
+shared-slice-read-if2 : tie.Need-shared-slice-read-if2 Inv-bytes μ-bytes Inv-segments μ-segments Inv-templates μ-templates
 shared-slice-read-if2 c = omega arith
 
-element-copy-out-if2 :
-    tie.Need-element-copy-out-if2
-    Inv-bytes
-    μ-bytes
-    Inv-segments
-    μ-segments
-    Inv-templates
-    μ-templates
-element-copy-out-if2 c = omega (arith, within (c .before .before .before .before .before .before))
+byte-at-requires : tie.Need-byte-at-requires Inv-bytes μ-bytes Inv-segments μ-segments Inv-templates μ-templates
+byte-at-requires c κs =
+    let g : Segmented = c .before .before .before .before .before in
+    (in-range (g .before .before .before .before), omega (arith, within g))
 
-templates-less-2 :
-    tie.Need-templates-less-2 Inv-bytes μ-bytes Inv-segments μ-segments Inv-templates μ-templates
+templates-less-2 : tie.Need-templates-less-2 Inv-bytes μ-bytes Inv-segments μ-segments Inv-templates μ-templates
 templates-less-2 c = omega arith
 
-templates-again-2 :
-    tie.Need-templates-again-2 Inv-bytes μ-bytes Inv-segments μ-segments Inv-templates μ-templates
+templates-again-2 : tie.Need-templates-again-2 Inv-bytes μ-bytes Inv-segments μ-segments Inv-templates μ-templates
 templates-again-2 c =
     let y : InBytes = c .before .before .before in
-    let s : InSegments = y .before .before .before .before .before in
+    let g : Segmented = y .before .before .before .before in
+    let s : InSegments = g .before in
     let b : InTemplates = s .before .before .before in (
       b .before .templates .inv .0,
       omega arith,
-      passed b (unfit-pieces (The b) (Packet b) (s .before .segments .inv .1 ∙ (y .before .bytes .inv .1 ∙ rw (begins-other (The b .bytes) (Packet b) (y .before .bytes .k) (Seg s .offset + Seg s .length) (omega arith) (omega arith) (c .if2 .taken))))),
+      passed b (unfit-pieces (The b) (Packet b) (s .before .segments .inv .1 ∙ (y .before .bytes .inv .1 ∙ rw (begins-other (The b .bytes) (Packet b) (y .before .bytes .k) (Seg g .offset + Seg g .length) (omega arith) (omega arith) (λ e. c .if2 .taken (e ∙ sym (c .before .byte-at .ensures))))))),
     )
 
 add-k : tie.Need-add-k Inv-bytes μ-bytes Inv-segments μ-segments Inv-templates μ-templates
 add-k c = omega arith
 
-bytes-less :
-    tie.Need-bytes-less Inv-bytes μ-bytes Inv-segments μ-segments Inv-templates μ-templates
+bytes-less : tie.Need-bytes-less Inv-bytes μ-bytes Inv-segments μ-segments Inv-templates μ-templates
 bytes-less c = omega arith
 
-bytes-again :
-    tie.Need-bytes-again Inv-bytes μ-bytes Inv-segments μ-segments Inv-templates μ-templates
+bytes-again : tie.Need-bytes-again Inv-bytes μ-bytes Inv-segments μ-segments Inv-templates μ-templates
 bytes-again c =
     let y : InBytes = c .before .before .before in
-    let s : InSegments = y .before .before .before .before .before in
-    let b : InTemplates = s .before .before .before in
-    (omega arith, y .before .bytes .inv .1 ∙ rw (begins-same (The b .bytes) (Packet b) (y .before .bytes .k) (Seg s .offset + Seg s .length) (omega arith) (omega arith) (c .if2 .left)))
+    let g : Segmented = y .before .before .before .before in
+    let b : InTemplates = g .before .before .before .before in
+    (omega arith, y .before .bytes .inv .1 ∙ rw (begins-same (The b .bytes) (Packet b) (y .before .bytes .k) (Seg g .offset + Seg g .length) (omega arith) (omega arith) (c .if2 .left ∙ c .before .byte-at .ensures)))
 
 add-j : tie.Need-add-j Inv-bytes μ-bytes Inv-segments μ-segments Inv-templates μ-templates
-add-j c = omega (arith, ok (c .before .before .before .before .before .before .before .before) .few)
+add-j c = omega (arith, head-few (c .before .before .before .before .before .before .before))
 
-segments-less :
-    tie.Need-segments-less Inv-bytes μ-bytes Inv-segments μ-segments Inv-templates μ-templates
+segments-less : tie.Need-segments-less Inv-bytes μ-bytes Inv-segments μ-segments Inv-templates μ-templates
 segments-less c = omega arith
 
-segments-again :
-    tie.Need-segments-again Inv-bytes μ-bytes Inv-segments μ-segments Inv-templates μ-templates
+segments-again : tie.Need-segments-again Inv-bytes μ-bytes Inv-segments μ-segments Inv-templates μ-templates
 segments-again c =
-    let s : InSegments = c .before .before .before .before .before in
+    let g : Segmented = c .before .before .before .before in
+    let s : InSegments = g .before in
     let b : InTemplates = s .before .before .before in
-    (omega arith, s .before .segments .inv .1 ∙ (c .before .bytes .inv .1 ∙ rw (begins-done (The b .bytes) (Packet b) (c .before .bytes .k) (Seg s .offset + Seg s .length) (omega arith))))
+    (omega arith, s .before .segments .inv .1 ∙ (c .before .bytes .inv .1 ∙ rw (begins-done (The b .bytes) (Packet b) (c .before .bytes .k) (Seg g .offset + Seg g .length) (omega arith))))
 
-sum-fits-requires :
-    tie.Need-sum-fits-requires Inv-bytes μ-bytes Inv-segments μ-segments Inv-templates μ-templates
+sum-fits-requires : tie.Need-sum-fits-requires Inv-bytes μ-bytes Inv-segments μ-segments Inv-templates μ-templates
 sum-fits-requires c κs =
-    let b : InTemplates = c .before .before .before .before in
-    (b .before .before .before .pre .1, sum-place (The b) (ok b .sound) (c .if3 .taken))
+    let h : Headed = c .before .before .before in
+    (h .before .before .before .before .before .pre .1, place-read (The (h .before)) (h .head-at .result) (h .head-at .ensures) (ok (h .before)) (c .if3 .taken))
 
-templates-less-3 :
-    tie.Need-templates-less-3 Inv-bytes μ-bytes Inv-segments μ-segments Inv-templates μ-templates
+templates-less-3 : tie.Need-templates-less-3 Inv-bytes μ-bytes Inv-segments μ-segments Inv-templates μ-templates
 templates-less-3 c = omega arith
 
-templates-again-3 :
-    tie.Need-templates-again-3 Inv-bytes μ-bytes Inv-segments μ-segments Inv-templates μ-templates
+templates-again-3 : tie.Need-templates-again-3 Inv-bytes μ-bytes Inv-segments μ-segments Inv-templates μ-templates
 templates-again-3 c =
     let a : AfterSegments = c .before .before .before in
-    let b : InTemplates = a .before .before .before in (
+    let h : Headed = a .before .before in
+    let b : InTemplates = h .before in (
       b .before .templates .inv .0,
       omega arith,
-      passed b (fit-sum (The b) (Packet b) false (compared a) (c .before .before .if3 .taken) (sym (c .before .sum-fits .ensures) ∙ not-true _ (c .if4 .taken))),
+      passed b (sum-read (The b) (h .head-at .result) (h .head-at .ensures) (Packet b) false (compared a) (c .before .before .if3 .taken) (sym (c .before .sum-fits .ensures) ∙ not-true _ (c .if4 .taken))),
     )
 
 returns : tie.Need-returns Inv-bytes μ-bytes Inv-segments μ-segments Inv-templates μ-templates
@@ -232,14 +258,16 @@ returns c = record { choice = ap (choiceAt _) (c .before .templates .inv .0) ∙
 returns-2 : tie.Need-returns-2 Inv-bytes μ-bytes Inv-segments μ-segments Inv-templates μ-templates
 returns-2 c =
     let a : AfterSegments = c .before .before .before in
-    let b : InTemplates = a .before .before .before in
-    found b (fit-sum (The b) (Packet b) true (compared a) (c .before .before .if3 .taken) (sym (c .before .sum-fits .ensures) ∙ not-false _ (c .if4 .left)))
+    let h : Headed = a .before .before in
+    let b : InTemplates = h .before in
+    found b (sum-read (The b) (h .head-at .result) (h .head-at .ensures) (Packet b) true (compared a) (c .before .before .if3 .taken) (sym (c .before .sum-fits .ensures) ∙ not-false _ (c .if4 .left)))
 
 returns-3 : tie.Need-returns-3 Inv-bytes μ-bytes Inv-segments μ-segments Inv-templates μ-templates
 returns-3 c =
     let a : AfterSegments = c .before in
-    let b : InTemplates = a .before .before .before in
-    found b (fit-plain (The b) (Packet b) (compared a) (c .if3 .left))
+    let h : Headed = a .before .before in
+    let b : InTemplates = h .before in
+    found b (plain-read (The b) (h .head-at .result) (h .head-at .ensures) (Packet b) (compared a) (c .if3 .left))
 
 pub find-spec : {M : Type 1} → statement M
 find-spec =
@@ -251,19 +279,18 @@ find-spec =
     μ-segments
     Inv-templates
     μ-templates
+    count-of-requires
     templates-holds
     add-next
-    mul-t
-    element-copy-out-t
+    head-at-requires
     segments-holds
-    mul-s
-    element-copy-out-s
+    segment-at-requires
     add-end
     templates-less
     templates-again
     bytes-holds
     shared-slice-read-if2
-    element-copy-out-if2
+    byte-at-requires
     templates-less-2
     templates-again-2
     add-k

@@ -30,7 +30,8 @@ returns-2 c =
 
 rebuild-requires : tie.Need-rebuild-requires
 rebuild-requires c κs =
-    Opening.rebuildable _ _ (c .before .before .before .before .reaches .ensures) (not-false _ (c .before .before .before .if1 .left)) (c .before .before .rebuilt-length .ensures) (c .before .before .before .before .before .before .pre) (within (c .before))
+    let s = c .before .before .before .before .before .before in
+    (s .pre .0, Opening.rebuildable _ _ (c .before .before .before .before .reaches .ensures) (not-false _ (c .before .before .before .if1 .left)) (c .before .before .rebuilt-length .ensures) (s .pre .1) (within (c .before)))
 
 returns-3 : tie.Need-returns-3
 returns-3 c =

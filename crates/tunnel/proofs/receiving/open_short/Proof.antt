@@ -1,6 +1,7 @@
 -- The search found the template with the Context ID, or there is none. Assumes nothing.
 use Prim.Native.Nat.{_<_}
 use mathlib.Core.Path.{ap}
+use Rattle.plan.specs.Rules.{maxTemplates}
 use Rattle.template.specs.Datagrams.{openShort}
 use Rattle.tunnel.proofs.ReceivingOpening as Opening
 use borrow.Author.Needs.{needs}
@@ -8,7 +9,7 @@ use Rattle.tunnel.proofs.receiving.open_short.Statement.{statement}
 use Rattle.tunnel.proofs.receiving.open_short.Tie as tie
 
 -- the place that was found
-few : (c : tie.After-known-told) → c .before .found .given .0 .0 < 8
+few : (c : tie.After-known-told) → c .before .found .given .0 .0 < maxTemplates
 few c = Opening.found-few _ _ (c .before .before .before .find-id .ensures) _ (c .before .found .given .1) (c .before .before .before .before .before .pre)
 
 find-id-requires : tie.Need-find-id-requires
@@ -20,23 +21,19 @@ enum-told c = search needs
 enum-known-found : tie.Need-enum-known-found
 enum-known-found c = search needs
 
-mul-t : tie.Need-mul-t
-mul-t c = let h = few c in search needs
-
-element-copy-out-t : tie.Need-element-copy-out-t
-element-copy-out-t c = few c
-
 open-by-requires : tie.Need-open-by-requires
 open-by-requires c κs =
-    Opening.found-usable _ _ (c .before .before .before .before .before .find-id .ensures) _ (c .before .before .before .found .given .1) (c .before .before .before .before .before .before .before .pre)
+    let k = c .before in
+    let f = k .before .before .before in
+    (few k, Opening.found-usable _ _ (f .find-id .ensures) _ (k .before .found .given .1) (f .before .before .pre))
 
 returns : tie.Need-returns
 returns c = Opening.none-opens _ _ (c .before .before .find-id .ensures) _ (c .enum-told .given .1)
 
 returns-2 : tie.Need-returns-2
 returns-2 c =
-    let k = c .before .before .before .before .before .before in
-    Opening.opens-as (ap (openShort (k .before .before .args .body .now)) (Opening.found-choice _ _ (k .find-id .ensures) _ (c .before .before .before .before .found .given .1)))
+    let k = c .before .before .before .before .before in
+    Opening.opens-as (ap (openShort (k .before .before .args .body .now)) (Opening.found-choice _ _ (k .find-id .ensures) _ (c .before .before .before .found .given .1)))
     (c .open-by .ensures)
 
 pub open-short-spec : {M : Type 1} → statement M
@@ -46,8 +43,6 @@ open-short-spec =
     find-id-requires
     enum-told
     enum-known-found
-    mul-t
-    element-copy-out-t
     open-by-requires
     returns
     returns-2)

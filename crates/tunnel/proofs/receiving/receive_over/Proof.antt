@@ -3,6 +3,7 @@ use mathlib.Core.Path.{sym, _∙_}
 use lib.ListN.{length}
 use Rattle.grant.specs.declared.Grants.{Grants}
 use Rattle.plan.specs.Shapes.{shapesOf}
+use Rattle.lent_plan.specs.Lent.{lentPlan}
 use Rattle.template.specs.Datagrams.{opened}
 use Rattle.template.proofs.PlanFacts.{plan-usable}
 use Rattle.tunnel.specs.declared.receiving.OpenRead.the-variants.{Packet}
@@ -23,7 +24,7 @@ lists s = grantsOf (s .args .received-addresses .now) (s .args .received-routes 
 abbrev At : tie.After-enum-told → tie.Start
 At c = c .before .before .before .before .before
 
-state : (c : tie.After-enum-told) → StateGo (lists (At c)) (At c .args .plan) (length (At c .args .out .now))
+state : (c : tie.After-enum-told) → StateGo (lists (At c)) (lentPlan (At c .args .plan .now)) (length (At c .args .out .now))
 state c = state-facts _ _ _ (sym (c .before .before .state-verdict .ensures) ∙ c .enum-told .given .1)
 
 -- the packet at the front of the image
@@ -31,7 +32,7 @@ abbrev Told : tie.After-known-told3 → tie.After-enum-told
 Told c = c .before .before .before .before .before
 
 front : (c : tie.After-known-told3)
-    → Opens (opened (shapesOf (At (Told c) .args .plan)) (At (Told c) .args .datagram .now)) (Packet (c .before .read2 .given .0 .0)) (c .before .before .before .«open» .last .1 .1 .0)
+    → Opens (opened (shapesOf (lentPlan (At (Told c) .args .plan .now))) (At (Told c) .args .datagram .now)) (Packet (c .before .read2 .given .0 .0)) (c .before .before .before .«open» .last .1 .1 .0)
 front c = Opening.opens-told (c .before .before .before .«open» .ensures) (c .before .read2 .given .1)
 
 state-verdict-requires : tie.Need-state-verdict-requires

@@ -21,18 +21,18 @@ returns-2 : tie.Need-returns-2
 returns-2 c =
     Steps.state-lists _ _ _ _ _ _ (roomy (c .before .before)) (c .before .all-sound .ensures) (not-true _ (c .if2 .taken))
 
-plan-sound-requires : tie.Need-plan-sound-requires
-plan-sound-requires c κs = search needs
+lent-sound-requires : tie.Need-lent-sound-requires
+lent-sound-requires c κs = search needs
 
 returns-3 : tie.Need-returns-3
 returns-3 c =
-    Steps.state-plan _ _ _ _ _ _ (roomy (c .before .before .before .before)) (c .before .before .before .all-sound .ensures) (not-false _ (c .before .before .if2 .left)) (c .before .plan-sound .ensures) (not-true _ (c .if3 .taken))
+    Steps.state-plan _ _ _ _ _ _ (roomy (c .before .before .before .before)) (c .before .before .before .all-sound .ensures) (not-false _ (c .before .before .if2 .left)) (c .before .lent-sound .ensures) (not-true _ (c .if3 .taken))
 
 returns-4 : tie.Need-returns-4
 returns-4 c =
-    Steps.state-sound _ _ _ _ _ _ (roomy (c .before .before .before .before)) (c .before .before .before .all-sound .ensures) (not-false _ (c .before .before .if2 .left)) (c .before .plan-sound .ensures) (not-false _ (c .if3 .left))
+    Steps.state-sound _ _ _ _ _ _ (roomy (c .before .before .before .before)) (c .before .before .before .all-sound .ensures) (not-false _ (c .before .before .if2 .left)) (c .before .lent-sound .ensures) (not-false _ (c .if3 .left))
 
 pub state-verdict-spec : {M : Type 1} → statement M
 state-verdict-spec =
     tie.close
-    (tie.spec returns all-sound-requires returns-2 plan-sound-requires returns-3 returns-4)
+    (tie.spec returns all-sound-requires returns-2 lent-sound-requires returns-3 returns-4)

@@ -2,6 +2,7 @@
 use borrow.Author.Needs.{needs}
 use mathlib.Core.Path.{sym, ap}
 use Rattle.plan.specs.Shapes.{shapesOf}
+use Rattle.lent_plan.specs.Lent.{lentPlan}
 use Rattle.template.specs.Datagrams.{datagram}
 use Rattle.tunnel.proofs.SendingSteps.{wrote-as, front-lowered, front-length, front-puttable}
 use Rattle.tunnel.proofs.sending.put_datagram.Statement.{statement}
@@ -37,7 +38,7 @@ returns : tie.Need-returns
 returns c =
     let k = c .before .before .before .before in
     let l = k .before .before .before .before .before in
-    wrote-as (ap (datagram (shapesOf (In l .args .plan))) (front-lowered (In l .args .packet .now) (In l .args .image .now) (l .lower-into .ensures))) (k .put-lowered .ensures)
+    wrote-as (ap (datagram (shapesOf (lentPlan (In l .args .plan .now)))) (front-lowered (In l .args .packet .now) (In l .args .image .now) (l .lower-into .ensures))) (k .put-lowered .ensures)
 
 pub put-datagram-spec : {M : Type 1} → statement M
 put-datagram-spec =

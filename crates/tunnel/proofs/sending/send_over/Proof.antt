@@ -4,6 +4,7 @@ use mathlib.Core.Path.{_≡_, sym, _∙_}
 use lib.ListN.{length}
 use Rattle.answer.specs.declared.Verdict.the-variants.{Go}
 use Rattle.grant.specs.declared.Grants.{Grants}
+use Rattle.lent_plan.specs.Lent.{lentPlan}
 use Rattle.tunnel.specs.Tunnel.{grantsOf, sendVerdict}
 use Rattle.tunnel.proofs.SendingLaws.{SendGo, send-go}
 use Rattle.tunnel.proofs.SendingSteps.{go-sendable, writes-stop, writes-go}
@@ -17,11 +18,11 @@ In c = c .before .before .before .before .before
 abbrev Lists : tie.After-enum-told → Grants
 Lists c = let a = In c .args in grantsOf (a .received-addresses .now) (a .received-routes .now) (a .given-addresses .now) (a .given-routes .now)
 
-went : (c : tie.After-enum-told) → sendVerdict (Lists c) (In c .args .plan) (In c .args .packet .now) (length (In c .args .out .now)) ≡ Go
+went : (c : tie.After-enum-told) → sendVerdict (Lists c) (lentPlan (In c .args .plan .now)) (In c .args .packet .now) (length (In c .args .out .now)) ≡ Go
 went c = sym (c .before .before .send-verdict .ensures) ∙ c .enum-told .given .1
 
-go : (c : tie.After-enum-told) → SendGo (Lists c) (In c .args .plan) (In c .args .packet .now) (length (In c .args .out .now))
-go c = send-go (Lists c) (In c .args .plan) (In c .args .packet .now) (length (In c .args .out .now)) (went c)
+go : (c : tie.After-enum-told) → SendGo (Lists c) (lentPlan (In c .args .plan .now)) (In c .args .packet .now) (length (In c .args .out .now))
+go c = send-go (Lists c) (lentPlan (In c .args .plan .now)) (In c .args .packet .now) (length (In c .args .out .now)) (went c)
 
 send-verdict-requires : tie.Need-send-verdict-requires
 send-verdict-requires c κs = search needs
@@ -48,7 +49,7 @@ returns-2 : tie.Need-returns-2
 returns-2 c =
     let k = c .before .before .before in
     let t = k .before .before .before in
-    writes-go (In t .args .plan) (In t .args .packet .now) (went t) (k .put-datagram .ensures)
+    writes-go (lentPlan (In t .args .plan .now)) (In t .args .packet .now) (went t) (k .put-datagram .ensures)
 
 pub send-over-spec : {M : Type 1} → statement M
 send-over-spec =

@@ -16,21 +16,26 @@ use Rattle.inet.proofs.FormFacts.{form-facts}
 use Rattle.grant.specs.declared.Grants.{Grants}
 use Rattle.grant.specs.State.{soundGrants, sendingGranted}
 use Rattle.grant.proofs.StateLaws as State
+use Rattle.plan.specs.declared.Plan.{Plan}
+use Rattle.lent_plan.specs.Lent.{lentPlan}
 use Rattle.template.specs.Datagrams.{maxPacket}
 use Rattle.tunnel.specs.Tunnel.{grantsOf, sendRoom, sendTests, sendVerdict}
 use Rattle.tunnel.proofs.SendingLaws.{broken-lists, broken-plan, sound-state}
 use Rattle.tunnel.proofs.sending.send_verdict.Statement.{statement}
 use Rattle.tunnel.proofs.sending.send_verdict.Tie as tie
 
--- the packet, the grants and the table
+-- the packet, the grants, the plan and the table
 abbrev P : tie.Start → List ℕ
 P s = s .args .packet .now
 
 abbrev G : tie.Start → Grants
 G s = grantsOf (s .args .received-addresses .now) (s .args .received-routes .now) (s .args .given-addresses .now) (s .args .given-routes .now)
 
+abbrev T : tie.Start → Plan
+T s = lentPlan (s .args .plan .now)
+
 abbrev Table : tie.Start → List Test
-Table s = sendTests (G s) (s .args .plan) (P s) (s .args .room)
+Table s = sendTests (G s) (T s) (P s) (s .args .room)
 
 abbrev Past : ℕ → tie.Start → Type 0
 Past k s = firstOf (Table s) ≡ firstOf (drop k (Table s))
@@ -66,7 +71,7 @@ unfolding sendTests
 past2 c =
     let e = c .before .before in
     past1 (e .before .before)
-    ∙ passes _ _ _ (sound-state (G (S3 c)) (S3 c .args .plan) (called-true (lists (e .before)) (e .if2 .left)) (called-true (c .before .plan-sound .ensures) (c .if3 .left)))
+    ∙ passes _ _ _ (sound-state (G (S3 c)) (T (S3 c)) (called-true (lists (e .before)) (e .if2 .left)) (called-true (c .before .lent-sound .ensures) (c .if3 .left)))
 
 past3 : (c : tie.Else4) → Past 3 (S4 c)
 unfolding sendTests
@@ -99,16 +104,16 @@ returns-2 : tie.Need-returns-2
 unfolding sendVerdict sendTests
 returns-2 c =
     let s = S1 (c .before .before) in
-    sym (past1 (c .before .before) ∙ stops _ _ _ (broken-lists (G s) (s .args .plan) (called-false (lists (c .before)) (c .if2 .taken))))
+    sym (past1 (c .before .before) ∙ stops _ _ _ (broken-lists (G s) (T s) (called-false (lists (c .before)) (c .if2 .taken))))
 
-plan-sound-requires : tie.Need-plan-sound-requires
-plan-sound-requires c κs = search needs
+lent-sound-requires : tie.Need-lent-sound-requires
+lent-sound-requires c κs = search needs
 
 returns-3 : tie.Need-returns-3
 unfolding sendVerdict sendTests
 returns-3 c =
     let e = c .before .before in
-    sym (past1 (e .before .before) ∙ stops _ _ _ (broken-plan (G (S2 e)) (S2 e .args .plan) (called-false (c .before .plan-sound .ensures) (c .if3 .taken))))
+    sym (past1 (e .before .before) ∙ stops _ _ _ (broken-plan (G (S2 e)) (T (S2 e)) (called-false (c .before .lent-sound .ensures) (c .if3 .taken))))
 
 returns-4 : tie.Need-returns-4
 unfolding sendVerdict sendTests
@@ -151,7 +156,7 @@ send-verdict-spec =
     returns
     all-sound-requires
     returns-2
-    plan-sound-requires
+    lent-sound-requires
     returns-3
     returns-4
     form-requires

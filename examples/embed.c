@@ -1,0 +1,75 @@
+/*
+ * A host in C: two ends of a tunnel, one packet sent short and received.
+ *
+ *   rt staticlib tunnel_c
+ *   cc -std=c99 -Wall -Wextra -Iinclude examples/embed.c target/staticlib/libtunnel_c.a -o target/embed && target/embed
+ */
+#include "whapirohi.h"
+
+#include <stdio.h>
+#include <string.h>
+
+static const uint8_t PLAN[] = {0x56, 0x41, 0x4E, 0x00, 0x01, 0x01, 0x02, 0x01, 0x0C, 0x0C, 0xC0, 0x00, 0x02,
+                               0x03, 0xC6, 0x33, 0x64, 0x02, 0x03, 0xE8, 0x07, 0xD0, 0x01, 0x1A, 0x14};
+
+/* UDP from 192.0.2.3, port 1000, to 198.51.100.2, port 2000 */
+static const uint8_t PACKET[] = {0x45, 0x00, 0x00, 0x1C, 0x00, 0x00, 0x00, 0x00, 0x40, 0x11, 0x8E, 0x98, 0xC0, 0x00,
+                                 0x02, 0x03, 0xC6, 0x33, 0x64, 0x02, 0x03, 0xE8, 0x07, 0xD0, 0x00, 0x08, 0x07, 0xED};
+
+static void show(const char *what, whapirohi_answer a, const uint8_t *bytes)
+{
+    printf("%s: %llu, %llu bytes", what, (unsigned long long)a.number, (unsigned long long)a.length);
+    for (uint64_t i = 0; i < a.length; i++) {
+        printf(" %02x", bytes[i]);
+    }
+    printf("\n");
+}
+
+int main(void)
+{
+    static whapirohi_state van, clinic;
+    static uint64_t addresses[WHAPIROHI_ADDRESS_WORDS], routes[WHAPIROHI_ROUTE_WORDS], requested[WHAPIROHI_ADDRESS_WORDS];
+    static uint8_t stream[2 * WHAPIROHI_CAPSULE_ROOM], datagram[WHAPIROHI_SEND_ROOM], packet[WHAPIROHI_RECEIVE_ROOM];
+
+    if (whapirohi_state_size() != sizeof(whapirohi_state)) {
+        printf("the header is not that of the library\n");
+        return 1;
+    }
+    whapirohi_start(&van);
+    whapirohi_start(&clinic);
+    printf("plans: %llu, %llu\n", (unsigned long long)whapirohi_load_plan(&van, PLAN, sizeof PLAN),
+           (unsigned long long)whapirohi_load_plan(&clinic, PLAN, sizeof PLAN));
+
+    /* The clinic assigns 192.0.2.3/32 and advertises 198.51.100.2 for UDP. */
+    addresses[0] = 1;
+    addresses[2] = 4 + 256 * 32;
+    addresses[4] = 0xC0000203;
+    routes[0] = 1;
+    routes[1] = 4 + 256 * 17;
+    routes[3] = routes[5] = 0xC6336402;
+    whapirohi_answer assigned = whapirohi_write_assign(&clinic, addresses, stream, WHAPIROHI_CAPSULE_ROOM);
+    show("assign", assigned, stream);
+    uint8_t *rest = stream + assigned.length;
+    whapirohi_answer advertised = whapirohi_write_routes(&clinic, routes, rest, WHAPIROHI_CAPSULE_ROOM);
+    show("routes", advertised, rest);
+
+    /* The van reads both from the stream, one after the other. */
+    size_t size = assigned.length + advertised.length, at = 0;
+    for (;;) {
+        whapirohi_capsule c = whapirohi_read_capsule(&van, stream, size, at, requested);
+        printf("capsule at %zu: %llu, kind %llu\n", at, (unsigned long long)c.number, (unsigned long long)c.kind);
+        if (c.number != 0) {
+            break;
+        }
+        at = c.next;
+    }
+
+    whapirohi_answer sent = whapirohi_send(&van, PACKET, sizeof PACKET, datagram, sizeof datagram);
+    show("sent", sent, datagram);
+    show("received", whapirohi_receive(&clinic, datagram, sent.length, packet, sizeof packet), packet);
+
+    /* A state that was written over is refused. */
+    memset(&van.received_routes, 0xFF, sizeof van.received_routes);
+    show("broken", whapirohi_send(&van, PACKET, sizeof PACKET, datagram, sizeof datagram), datagram);
+    return 0;
+}

@@ -1,0 +1,168 @@
+/*
+ * The van tunnel box for C and Rust hosts.
+ *
+ * The host owns the state and lends it to each call; nothing is kept between calls and nothing is allocated. Every call answers, whatever
+ * bytes it is handed: 0, or the number of the refusal. A refusal alters nothing that was lent.
+ *
+ * What the caller owes, as for any C function over pointers: each pointer is not null and points to as many bytes or words as its parameter
+ * says (a pointer with a length of 0 is not null either); memory that a call writes to overlaps with nothing else that is lent to it.
+ */
+#ifndef WHAPIROHI_H
+#define WHAPIROHI_H
+
+#include <stddef.h>
+#include <stdint.h>
+
+#ifdef __cplusplus
+extern "C" {
+#endif
+
+/* Words of a list: the count, then 4 words an entry (Request ID; version + 256 * prefix length; high half, low half of the address) or
+ * 5 words a range (version + 256 * protocol; start, high and low half; end, high and low half). An IPv4 address stands in the low half.
+ * Bits above those two bytes, and words past the count, mean nothing; they are 0 in a list that the box makes. */
+enum {
+    WHAPIROHI_ADDRESS_WORDS = 65,
+    WHAPIROHI_ROUTE_WORDS = 321,
+    WHAPIROHI_PLAN_WORDS = 1193
+};
+
+/* The least lent outputs. */
+enum {
+    WHAPIROHI_NUMBER_ROOM = 8,
+    WHAPIROHI_PLAN_ROOM = 1400,
+    WHAPIROHI_RECEIVE_ROOM = 1500,
+    WHAPIROHI_SEND_ROOM = 1508,
+    WHAPIROHI_CAPSULE_ROOM = 4104
+};
+
+/* The plan in words: the count of templates, then 149 words a template: Context ID, count of segments, 1 with a checksum and 0 without,
+ * field, start, 8 segments of two words (offset, length), and 128 words with a static byte each: that of position p of a packet is word p.
+ * A third word other than 0 counts as 1. Bits above a static byte, templates and segments past their counts, bytes outside all segments, and
+ * field and start without a checksum mean nothing; they are 0 in a plan that the box reads. */
+typedef struct whapirohi_state {
+    uint64_t received_addresses[WHAPIROHI_ADDRESS_WORDS];
+    uint64_t received_routes[WHAPIROHI_ROUTE_WORDS];
+    uint64_t given_addresses[WHAPIROHI_ADDRESS_WORDS];
+    uint64_t given_routes[WHAPIROHI_ROUTE_WORDS];
+    uint64_t plan[WHAPIROHI_PLAN_WORDS];
+} whapirohi_state;
+
+/* number: 0, or the refusal. length: how many bytes were written to the front of the output; 0 with a refusal. */
+typedef struct whapirohi_answer {
+    uint64_t number;
+    uint64_t length;
+} whapirohi_answer;
+
+/* A number that was read: its value and how many bytes it took; both 0 with a refusal. */
+typedef struct whapirohi_number {
+    uint64_t number;
+    uint64_t value;
+    uint64_t size;
+} whapirohi_number;
+
+/* kind: 0 DATAGRAM, 1 ADDRESS_ASSIGN, 2 ADDRESS_REQUEST, 3 ROUTE_ADVERTISEMENT, 4 any other type, which is skipped.
+ * start, length: where the value of a DATAGRAM stands in the bytes; 0 for every other kind. next: where the next capsule starts; with a
+ * refusal the place as it was. With a refusal kind, start and length are 0. */
+typedef struct whapirohi_capsule {
+    uint64_t number;
+    uint64_t kind;
+    uint64_t start;
+    uint64_t length;
+    uint64_t next;
+} whapirohi_capsule;
+
+/* ---- the calls as the library exports them: the state lent list by list */
+
+uint64_t whapirohi_state_size(void); /* sizeof (whapirohi_state) in bytes */
+
+void whapirohi_start_over(uint64_t *received_addresses, uint64_t *received_routes, uint64_t *given_addresses, uint64_t *given_routes,
+                          uint64_t *plan);
+
+/* 20 to 25, or 0: then the plan is replaced. */
+uint64_t whapirohi_load_plan_over(const uint8_t *file, size_t length, uint64_t *plan);
+
+/* The file of a plan: 16, 25, 23. */
+whapirohi_answer whapirohi_write_plan_over(const uint64_t *plan, uint8_t *out, size_t room);
+
+/* One capsule at a place: 9, 1 to 7. Type 1 or 3 replaces the received list; type 2 writes its entries to requested. */
+whapirohi_capsule whapirohi_read_capsule_over(uint64_t *received_addresses, uint64_t *received_routes, const uint64_t *given_addresses,
+                                              const uint64_t *given_routes, const uint8_t *bytes, size_t length, size_t at,
+                                              uint64_t *requested);
+
+/* 16, 9, 3, 7; 16, 9, 4, 5, 7: on success the list becomes the given one. */
+whapirohi_answer whapirohi_write_assign_over(const uint64_t *received_addresses, const uint64_t *received_routes, uint64_t *given_addresses,
+                                             const uint64_t *given_routes, const uint64_t *list, uint8_t *out, size_t room);
+whapirohi_answer whapirohi_write_routes_over(const uint64_t *received_addresses, const uint64_t *received_routes,
+                                             const uint64_t *given_addresses, uint64_t *given_routes, const uint64_t *list, uint8_t *out,
+                                             size_t room);
+
+/* 16, 9, 15, 10, 11, 12 */
+whapirohi_answer whapirohi_send_over(const uint64_t *received_addresses, const uint64_t *received_routes, const uint64_t *given_addresses,
+                                     const uint64_t *given_routes, const uint64_t *plan, const uint8_t *packet, size_t length, uint8_t *out,
+                                     size_t room);
+
+/* 16, 9, 14, 13, 14, 15, 10, 12 */
+whapirohi_answer whapirohi_receive_over(const uint64_t *received_addresses, const uint64_t *received_routes, const uint64_t *given_addresses,
+                                        const uint64_t *given_routes, const uint64_t *plan, const uint8_t *datagram, size_t length,
+                                        uint8_t *out, size_t room);
+
+/* ---- the calls that need no state */
+
+whapirohi_number whapirohi_read_number(const uint8_t *bytes, size_t length);              /* 1 */
+whapirohi_answer whapirohi_write_number(uint64_t value, uint8_t *out, size_t room);       /* 16, 3 */
+whapirohi_answer whapirohi_write_datagram(const uint8_t *value, size_t length, uint8_t *out, size_t room); /* 16, 2 */
+whapirohi_answer whapirohi_write_request(const uint64_t *list, uint8_t *out, size_t room); /* 16, 3, 6, 7 */
+
+/* ---- the calls over the whole state */
+
+static inline void whapirohi_start(whapirohi_state *s)
+{
+    whapirohi_start_over(s->received_addresses, s->received_routes, s->given_addresses, s->given_routes, s->plan);
+}
+
+static inline uint64_t whapirohi_load_plan(whapirohi_state *s, const uint8_t *file, size_t length)
+{
+    return whapirohi_load_plan_over(file, length, s->plan);
+}
+
+static inline whapirohi_answer whapirohi_write_plan(const whapirohi_state *s, uint8_t *out, size_t room)
+{
+    return whapirohi_write_plan_over(s->plan, out, room);
+}
+
+static inline whapirohi_capsule whapirohi_read_capsule(whapirohi_state *s, const uint8_t *bytes, size_t length, size_t at,
+                                                       uint64_t requested[WHAPIROHI_ADDRESS_WORDS])
+{
+    return whapirohi_read_capsule_over(s->received_addresses, s->received_routes, s->given_addresses, s->given_routes, bytes, length, at,
+                                       requested);
+}
+
+static inline whapirohi_answer whapirohi_write_assign(whapirohi_state *s, const uint64_t list[WHAPIROHI_ADDRESS_WORDS], uint8_t *out,
+                                                      size_t room)
+{
+    return whapirohi_write_assign_over(s->received_addresses, s->received_routes, s->given_addresses, s->given_routes, list, out, room);
+}
+
+static inline whapirohi_answer whapirohi_write_routes(whapirohi_state *s, const uint64_t list[WHAPIROHI_ROUTE_WORDS], uint8_t *out,
+                                                      size_t room)
+{
+    return whapirohi_write_routes_over(s->received_addresses, s->received_routes, s->given_addresses, s->given_routes, list, out, room);
+}
+
+static inline whapirohi_answer whapirohi_send(const whapirohi_state *s, const uint8_t *packet, size_t length, uint8_t *out, size_t room)
+{
+    return whapirohi_send_over(s->received_addresses, s->received_routes, s->given_addresses, s->given_routes, s->plan, packet, length, out,
+                               room);
+}
+
+static inline whapirohi_answer whapirohi_receive(const whapirohi_state *s, const uint8_t *datagram, size_t length, uint8_t *out, size_t room)
+{
+    return whapirohi_receive_over(s->received_addresses, s->received_routes, s->given_addresses, s->given_routes, s->plan, datagram, length,
+                                  out, room);
+}
+
+#ifdef __cplusplus
+}
+#endif
+
+#endif

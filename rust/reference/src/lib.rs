@@ -1,0 +1,23 @@
+//! The van tunnel box in ordinary Rust.
+//!
+//! Written from the paper alone, so that the proved library can be tested and measured against it. Every entry point answers
+//! `Result<_, Refusal>`; a refusal leaves what was lent as it was. Nothing is allocated. Fields are public, so that a state that breaks its
+//! own rules can be handed in: each entry point tests that itself (number 9).
+#![forbid(unsafe_code)]
+
+pub mod capsule;
+pub mod grants;
+pub mod list;
+pub mod number;
+pub mod packet;
+pub mod plan;
+pub mod refusal;
+pub mod tunnel;
+
+pub use capsule::{read_capsule, write_assign, write_datagram, write_request, write_routes, Capsule};
+pub use grants::{Event, Grants};
+pub use list::{AddressEntry, AddressList, List, RequestId, RouteList, RouteRange};
+pub use number::{read_number, write_number};
+pub use plan::{read_plan, write_plan, Checksum, ContextId, Plan, Segment, Template};
+pub use refusal::Refusal;
+pub use tunnel::{receive, send};

@@ -1,0 +1,279 @@
+//! The drivers' examples of the paper, and the numbers of RFC 9000 appendix A.1.
+
+use whapirohi_reference::list::{MAX_ADDRESSES, MAX_RANGES};
+use whapirohi_reference::packet::{self, Header};
+use whapirohi_reference::*;
+
+fn hex(text: &str) -> Vec<u8> {
+    let digits: Vec<u32> = text.chars().filter_map(|c| c.to_digit(16)).collect();
+    digits.chunks(2).map(|pair| (pair[0] * 16 + pair[1]) as u8).collect()
+}
+
+fn ipv4(text: &str) -> u128 {
+    u128::from(u32::from(text.parse::<std::net::Ipv4Addr>().unwrap()))
+}
+
+fn entry(address: &str, prefix: u8) -> AddressEntry {
+    AddressEntry { request_id: RequestId(0), version: 4, prefix, address: ipv4(address) }
+}
+
+fn range(start: &str, end: &str, protocol: u8) -> RouteRange {
+    RouteRange { version: 4, protocol, start: ipv4(start), end: ipv4(end) }
+}
+
+fn list<T: Copy + Default, const N: usize>(items: &[T]) -> List<T, N> {
+    let mut list = List { count: items.len(), ..List::default() };
+    list.items[..items.len()].copy_from_slice(items);
+    list
+}
+
+/// 192.0.2.3 is ours, UDP to 198.51.100.2 is routed to us.
+fn grants() -> Grants {
+    Grants {
+        received_addresses: list(&[entry("192.0.2.3", 32)]),
+        received_routes: list(&[range("198.51.100.2", "198.51.100.2", 17)]),
+        ..Grants::default()
+    }
+}
+
+const PACKET: &str = "45 00 00 1C 00 00 00 00 40 11 8E 98 C0 00 02 03 C6 33 64 02 03 E8 07 D0 00 08 07 ED";
+const LOWERED: &str = "45 00 00 1C 00 00 00 00 3F 11 8F 98 C0 00 02 03 C6 33 64 02 03 E8 07 D0 00 08 07 ED";
+const PLAN: &str = "56 41 4E 00 01 01 02 01 0C 0C C0 00 02 03 C6 33 64 02 03 E8 07 D0 01 1A 14";
+
+fn sent(plan: &Plan, packet: &[u8]) -> Result<Vec<u8>, Refusal> {
+    let mut out = [0xAA; 1508];
+    let length = send(&grants(), plan, packet, &mut out)?;
+    assert!(out[length..].iter().all(|b| *b == 0xAA));
+    Ok(out[..length].to_vec())
+}
+
+fn received(plan: &Plan, datagram: &[u8]) -> Result<Vec<u8>, Refusal> {
+    let mut out = [0xAA; 1500];
+    let length = receive(&grants().mirrored(), plan, datagram, &mut out)?;
+    assert!(out[length..].iter().all(|b| *b == 0xAA));
+    Ok(out[..length].to_vec())
+}
+
+#[test]
+fn numbers_of_rfc_9000() {
+    for (form, value) in
+        [("c2197c5eff14e88c", 151_288_809_941_952_652), ("9d7f3e7d", 494_878_333), ("7bbd", 15_293), ("25", 37)]
+    {
+        let form = hex(form);
+        assert_eq!(read_number(&form), Ok((value, form.len())));
+        let mut out = [0xAA; 9];
+        assert_eq!(write_number(value, &mut out), Ok(form.len()));
+        assert_eq!(out[..form.len()], form);
+        assert!(out[form.len()..].iter().all(|b| *b == 0xAA));
+        assert_eq!(read_number(&form[..form.len() - 1]), Err(Refusal::NotAllThere));
+    }
+    assert_eq!(read_number(&hex("4025")), Ok((37, 2)));
+    assert_eq!(write_number(1 << 62, &mut [0; 8]), Err(Refusal::BadAddress));
+    assert_eq!(write_number(1 << 62, &mut [0; 7]), Err(Refusal::NoRoom));
+}
+
+#[test]
+fn addresses_assigned() {
+    let mut held = Grants::default();
+    let read = held.read_capsule(&hex("01 07 00 04 C0 00 02 03 20"), 0);
+    assert_eq!(read.unwrap().1, 9);
+    assert_eq!(held.received_addresses, list(&[entry("192.0.2.3", 32)]));
+    assert_eq!(held.read_capsule(&hex("02 00"), 0), Err(Refusal::BadRequestId));
+    assert_eq!(held.received_addresses, list(&[entry("192.0.2.3", 32)]));
+    assert_eq!(held.read_capsule(&hex("01 00"), 0).unwrap().1, 2);
+    assert_eq!(held, Grants::default());
+}
+
+#[test]
+fn bits_beyond_the_prefix() {
+    assert!(read_capsule(&hex("01 07 00 04 C0 00 02 00 18"), 0).is_ok());
+    assert_eq!(read_capsule(&hex("01 07 00 04 C0 00 02 01 18"), 0), Err(Refusal::BadAddress));
+}
+
+#[test]
+fn routes_advertised() {
+    let mut held = Grants::default();
+    assert!(held.read_capsule(&hex("03 0A 04 C6 33 64 02 C6 33 64 02 11"), 0).is_ok());
+    assert_eq!(held.received_routes, list(&[range("198.51.100.2", "198.51.100.2", 17)]));
+}
+
+#[test]
+fn ranges_in_order() {
+    let ranges = |first: &str, second: &str| hex(&format!("03 14 {first} {second}"));
+    let from_2_to_9 = "04 C6 33 64 02 C6 33 64 09 11";
+    assert!(read_capsule(&ranges(from_2_to_9, "04 C6 33 64 0A C6 33 64 0C 11"), 0).is_ok());
+    let touching = ranges(from_2_to_9, "04 C6 33 64 09 C6 33 64 0C 11");
+    assert_eq!(read_capsule(&touching, 0), Err(Refusal::RangesOutOfOrder));
+    let protocol_0_last = ranges(from_2_to_9, "04 C6 33 64 0A C6 33 64 0C 00");
+    assert_eq!(read_capsule(&protocol_0_last, 0), Err(Refusal::RangesOutOfOrder));
+}
+
+#[test]
+fn packet_sent_in_full() {
+    let full = [&[0][..], &hex(LOWERED)].concat();
+    assert_eq!(sent(&Plan::default(), &hex(PACKET)), Ok(full.clone()));
+    assert_eq!(received(&Plan::default(), &full), Ok(hex(LOWERED)));
+}
+
+#[test]
+fn packet_sent_short() {
+    let plan = read_plan(&hex(PLAN)).unwrap();
+    let short = hex("02 45 00 00 1C 00 00 00 00 3F 11 8F 98 00 08 EC 52");
+    assert_eq!(sent(&plan, &hex(PACKET)), Ok(short.clone()));
+    assert_eq!(received(&plan, &short), Ok(hex(LOWERED)));
+}
+
+#[test]
+fn damaged_checksum_sent_in_full() {
+    let plan = read_plan(&hex(PLAN)).unwrap();
+    for checksum in [0x07EE, 0] {
+        let mut packet = hex(PACKET);
+        packet::put_word(&mut packet, 26, checksum);
+        let mut lowered = packet.clone();
+        packet::lower(&mut lowered);
+        assert_eq!(sent(&plan, &packet), Ok([&[0][..], &lowered].concat()));
+    }
+}
+
+#[test]
+fn sum_of_zero_is_ffff() {
+    let file = hex("56 41 4E 00 01 01 02 01 0C 08 C0 00 02 03 C6 33 64 02 01 1A 14");
+    let plan = read_plan(&file).unwrap();
+    for (checksum, first) in [(0xFFFF, 2), (0, 0)] {
+        let mut packet = hex(PACKET);
+        packet::put_word(&mut packet, 22, 4029);
+        packet::put_word(&mut packet, 26, checksum);
+        let datagram = sent(&plan, &packet).unwrap();
+        assert_eq!(datagram[0], first);
+        packet::lower(&mut packet);
+        assert_eq!(received(&plan, &datagram), Ok(packet));
+    }
+}
+
+#[test]
+fn list_limits() {
+    let one = hex("00 04 C0 00 02 03 20");
+    let capsule = |count: usize| [&[1, 0x40, (7 * count) as u8][..], &one.repeat(count)].concat();
+    assert!(read_capsule(&capsule(MAX_ADDRESSES), 0).is_ok());
+    assert_eq!(read_capsule(&capsule(MAX_ADDRESSES + 1), 0), Err(Refusal::ListTooLong));
+
+    let routes = |count: usize| {
+        let ranges = (0..count as u8).flat_map(|n| [4, 10, 0, 0, n, 10, 0, 0, n, 0]);
+        [3, 0x40 | ((10 * count) >> 8) as u8, (10 * count) as u8].into_iter().chain(ranges).collect::<Vec<u8>>()
+    };
+    assert!(read_capsule(&routes(MAX_RANGES), 0).is_ok());
+    assert_eq!(read_capsule(&routes(MAX_RANGES + 1), 0), Err(Refusal::ListTooLong));
+}
+
+#[test]
+fn hop_counts() {
+    for (ttl, passes) in [(0, false), (1, false), (2, true), (255, true)] {
+        let mut packet = hex(PACKET);
+        packet[8] = ttl;
+        packet::put_word(&mut packet, 10, 0);
+        let checksum = !packet::fold(packet::sum(&packet[..20]));
+        packet::put_word(&mut packet, 10, checksum);
+        let answer = sent(&Plan::default(), &packet);
+        if passes {
+            assert_eq!(answer.unwrap()[9], ttl - 1);
+        } else {
+            assert_eq!(answer, Err(Refusal::HopCountSpent));
+        }
+    }
+}
+
+#[test]
+fn one_plan_has_one_file() {
+    let plan = read_plan(&hex(PLAN)).unwrap();
+    let mut out = [0xAA; 1400];
+    assert_eq!(write_plan(&plan, &mut out), Ok(hex(PLAN).len()));
+    assert_eq!(out[..25], hex(PLAN));
+    assert!(out[25..].iter().all(|b| *b == 0xAA));
+    assert_eq!(write_plan(&plan, &mut out[..1399]), Err(Refusal::NoRoom));
+    for cut in 0..25 {
+        assert_eq!(read_plan(&hex(PLAN)[..cut]), Err(Refusal::PlanCut));
+    }
+    assert_eq!(read_plan(&[&hex(PLAN)[..], &[0]].concat()), Err(Refusal::PlanCut));
+}
+
+#[test]
+fn plan_rules_in_order() {
+    let refused = |text: &str| read_plan(&hex(text)).unwrap_err().number();
+    assert!(read_plan(&hex("56414E 0001 00")).is_ok());
+    assert_eq!(refused("56414D 0001 00"), 20);
+    assert_eq!(refused("5642"), 22);
+    assert_eq!(refused("56414E 0002 00"), 21);
+    assert_eq!(refused("56414E 0001 09"), 25);
+    assert_eq!(refused("56414E 0001 01 00"), 25);
+    assert_eq!(refused("56414E 0001 01 4002"), 24);
+    assert_eq!(refused("56414E 0001 01 02 09"), 23);
+    assert_eq!(refused("56414E 0001 01 02 01 05 00"), 23);
+    assert_eq!(refused("56414E 0001 01 02 01 4080 01"), 23);
+    assert_eq!(refused("56414E 0001 01 02 01 4080"), 22);
+    assert_eq!(refused("56414E 0001 01 02 01 05 02 AA"), 22);
+    assert_eq!(refused("56414E 0001 01 02 02 05 02 AAAA 06 01"), 23);
+    assert_eq!(refused("56414E 0001 01 02 00 00"), 23);
+    assert_eq!(refused("56414E 0001 01 02 00 02"), 23);
+    assert!(read_plan(&hex("56414E 0001 01 02 00 01 14 14")).is_ok());
+    assert_eq!(refused("56414E 0001 01 02 00 01 14 13"), 23);
+    assert_eq!(refused("56414E 0001 01 02 00 01 15 14"), 23);
+    assert_eq!(refused("56414E 0001 01 02 01 15 01 AA 01 14 14"), 23);
+    assert_eq!(refused("56414E 0001 02 02 01 05 01 AA 00 02"), 25);
+}
+
+#[test]
+fn requests_look_at_every_entry() {
+    let entry = |id: u8| [id, 4, 192, 0, 2, 3, 32];
+    let capsule = |ids: &[u8]| {
+        let value: Vec<u8> = ids.iter().flat_map(|id| entry(*id)).collect();
+        [&[2, 0x40 | (value.len() >> 8) as u8, value.len() as u8][..], &value].concat()
+    };
+    let ids: Vec<u8> = (1..=17).collect();
+    assert!(read_capsule(&capsule(&ids[..16]), 0).is_ok());
+    assert_eq!(read_capsule(&capsule(&ids), 0), Err(Refusal::ListTooLong));
+    assert_eq!(read_capsule(&capsule(&[&ids[..], &[17]].concat()), 0), Err(Refusal::BadRequestId));
+    assert_eq!(read_capsule(&capsule(&[1, 0]), 0), Err(Refusal::BadRequestId));
+}
+
+#[test]
+fn unknown_types_are_skipped() {
+    let long = [&[0x21, 0x60, 0x00][..], &[0; 8192]].concat();
+    assert_eq!(read_capsule(&long, 0), Ok((Capsule::Skipped, long.len())));
+    assert_eq!(read_capsule(&long[..long.len() - 1], 0), Err(Refusal::NotAllThere));
+    assert_eq!(read_capsule(&hex("00 5001"), 0), Err(Refusal::ValueTooLong));
+    assert_eq!(read_capsule(&hex("00 5000"), 0), Err(Refusal::NotAllThere));
+    assert_eq!(read_capsule(&[], 0), Err(Refusal::NotAllThere));
+    assert_eq!(read_capsule(&[], usize::MAX), Err(Refusal::NotAllThere));
+    assert_eq!(read_capsule(&hex("FF 00 02 AA BB"), 1), Ok((Capsule::Datagram { start: 3, length: 2 }, 5)));
+}
+
+#[test]
+fn icmp_by_version() {
+    let header = |version, protocol| Header { version, protocol, hop_count: 64, source: 0, destination: 0 };
+    assert!(header(4, 1).is_icmp() && header(6, 58).is_icmp());
+    assert!(!header(6, 1).is_icmp() && !header(4, 58).is_icmp());
+}
+
+#[test]
+fn joined_sums() {
+    let bytes: Vec<u8> = (0..=255).collect();
+    for length in [0, 1, 2, 7, 8, 255, 256] {
+        for cut in 0..=length {
+            let (head, tail) = bytes[..length].split_at(cut);
+            assert_eq!(packet::sum_joined(head, tail), packet::sum(&bytes[..length]), "{length} cut at {cut}");
+        }
+    }
+}
+
+#[test]
+fn broken_state_is_9() {
+    let mut broken = grants();
+    broken.given_addresses = list(&[entry("192.0.2.3", 31)]);
+    let plan = Plan::default();
+    assert_eq!(send(&broken, &plan, &hex(PACKET), &mut [0; 1508]), Err(Refusal::BrokenState));
+    assert_eq!(send(&broken, &plan, &hex(PACKET), &mut [0; 1507]), Err(Refusal::NoRoom));
+    assert_eq!(receive(&broken, &plan, &[], &mut [0; 1500]), Err(Refusal::BrokenState));
+    assert_eq!(broken.read_capsule(&[], 0), Err(Refusal::BrokenState));
+    assert_eq!(broken.write_assign(&list(&[]), &mut [0; 4104]), Err(Refusal::BrokenState));
+    assert_eq!(broken.write_assign(&list(&[]), &mut [0; 4103]), Err(Refusal::NoRoom));
+}

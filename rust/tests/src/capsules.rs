@@ -1,0 +1,207 @@
+//! Capsules as bytes: sound by construction, at limits, damaged.
+
+use crate::lists::{ordered_ranges, sound_entry};
+use crate::random::Random;
+use whapirohi_reference::{AddressEntry, RouteRange};
+
+const MAX_VALUE: usize = 4096;
+
+/// A number in its shortest form, or in one that is longer by `longer` steps where there is one.
+pub fn number_form(value: u64, longer: usize) -> Vec<u8> {
+    let shortest = match value {
+        0..=0x3f => 0,
+        0x40..=0x3fff => 1,
+        0x4000..=0x3fff_ffff => 2,
+        _ => 3,
+    };
+    let form = (shortest + longer).min(3);
+    let size = 1 << form;
+    let mut bytes = value.to_be_bytes()[8 - size..].to_vec();
+    bytes[0] = bytes[0] & 0x3f | (form as u8) << 6;
+    bytes
+}
+
+/// A number as a sender may write it: shortest most times.
+pub fn wire_number(random: &mut Random, value: u64) -> Vec<u8> {
+    let longer = if random.once_in(8) { random.between(1, 3) } else { 0 };
+    number_form(value, longer)
+}
+
+fn address(version: u8, address: u128) -> Vec<u8> {
+    address.to_be_bytes()[if version == 4 { 12 } else { 0 }..].to_vec()
+}
+
+fn entry_bytes(random: &mut Random, entry: &AddressEntry) -> Vec<u8> {
+    let mut bytes = wire_number(random, entry.request_id.0);
+    bytes.push(entry.version);
+    bytes.extend(address(entry.version, entry.address));
+    bytes.push(entry.prefix);
+    bytes
+}
+
+fn range_bytes(range: &RouteRange) -> Vec<u8> {
+    let mut bytes = vec![range.version];
+    bytes.extend(address(range.version, range.start));
+    bytes.extend(address(range.version, range.end));
+    bytes.push(range.protocol);
+    bytes
+}
+
+/// How many elements a capsule lists: few, about the limit, or as many as a value can hold.
+fn listed(random: &mut Random, limit: usize) -> usize {
+    match random.below(16) {
+        0 => 0,
+        1 => limit - 1,
+        2 | 3 => limit,
+        4 | 5 => limit + 1,
+        6 => limit + 2,
+        7 => random.below(4 * limit),
+        8 => 600,
+        _ => random.between(1, 4),
+    }
+}
+
+/// The value of an address capsule; for a request, IDs are not 0 and differ unless one is spoilt.
+fn address_value(random: &mut Random, request: bool) -> Vec<u8> {
+    let count = listed(random, 16);
+    let spoilt = if request && random.once_in(3) { random.below(count + 1) } else { usize::MAX };
+    let faulty = if random.once_in(8) { random.below(count + 1) } else { usize::MAX };
+    let first_id = random.below(60) as u64;
+    let small = random.once_in(3) || count > 100;
+    let mut ids: Vec<u64> = Vec::new();
+    let mut value = Vec::new();
+    for n in 0..count {
+        let mut entry = sound_entry(random);
+        if small {
+            entry = AddressEntry { version: 4, prefix: 32, address: u128::from(random.word() as u32), ..entry };
+        }
+        if request {
+            let fresh = if small { first_id + 1 + n as u64 } else { entry.request_id.0 };
+            let fresh = if fresh == 0 || ids.contains(&fresh) { (1 << 40) + n as u64 } else { fresh };
+            let earlier = if ids.is_empty() { 0 } else { random.pick(&ids) };
+            entry.request_id.0 = if n == spoilt { random.pick(&[0, earlier]) } else { fresh };
+            ids.push(entry.request_id.0);
+        } else if small {
+            entry.request_id.0 = random.below(64) as u64;
+        }
+        let bytes = if n == faulty { spoil_entry(random, entry) } else { entry_bytes(random, &entry) };
+        if value.len() + bytes.len() > MAX_VALUE {
+            break;
+        }
+        value.extend(bytes);
+    }
+    value
+}
+
+fn spoil_entry(random: &mut Random, mut entry: AddressEntry) -> Vec<u8> {
+    let mut bytes = match random.below(3) {
+        0 => {
+            entry.prefix = match entry.version {
+                4 => random.pick(&[33, 128, 255]),
+                _ => random.pick(&[129, 255]),
+            };
+            entry_bytes(random, &entry)
+        }
+        1 => {
+            entry.address |= 1;
+            entry.prefix = entry.prefix.saturating_sub(1);
+            entry_bytes(random, &entry)
+        }
+        _ => entry_bytes(random, &entry),
+    };
+    if random.once_in(3) {
+        let at = random.below(bytes.len());
+        bytes[at] = random.pick(&[0, 1, 4, 5, 6, 7, 32, 33, 128, 129, 255]);
+    }
+    bytes
+}
+
+fn route_value(random: &mut Random) -> Vec<u8> {
+    let count = listed(random, 64);
+    let mut ranges = ordered_ranges(random, count);
+    if count > 130 || random.once_in(8) {
+        // Small ones, as many as a value can hold.
+        for (n, range) in ranges.iter_mut().enumerate() {
+            let start = 16 * n as u128;
+            *range = RouteRange { version: 4, protocol: 17, start, end: start + random.below(16) as u128 };
+        }
+    }
+    if count > 0 && random.once_in(4) {
+        let n = random.below(count);
+        spoil_range(random, &mut ranges, n);
+    }
+    let mut value = Vec::new();
+    for range in &ranges {
+        let bytes = range_bytes(range);
+        if value.len() + bytes.len() > MAX_VALUE {
+            break;
+        }
+        value.extend(bytes);
+    }
+    value
+}
+
+fn spoil_range(random: &mut Random, ranges: &mut [RouteRange], n: usize) {
+    match random.below(7) {
+        0 => ranges[n].version = random.pick(&[0, 3, 5, 7, 255]),
+        1 => {
+            let RouteRange { start, end, .. } = ranges[n];
+            (ranges[n].start, ranges[n].end) = (end, start);
+        }
+        2 => ranges[n].start = ranges[n].end + u128::from(ranges[n].end < 0xffff_ffff),
+        3 if n > 0 => ranges[n] = ranges[n - 1],
+        4 if n > 0 => ranges[n] = RouteRange { start: ranges[n - 1].end, ..ranges[n - 1] },
+        5 if n > 0 => ranges.swap(n - 1, n),
+        _ => ranges[n].protocol = random.byte(),
+    }
+}
+
+/// A capsule; its length is off by one, its value at a limit, or its bytes damaged now and then.
+pub fn capsule(random: &mut Random) -> Vec<u8> {
+    let (kind, value) = match random.below(12) {
+        0 | 1 => {
+            let length = match random.below(4) {
+                0 => random.pick(&[0, 1, 63, 64, 1500, 4095, 4096, 4097, 4098]),
+                1 => random.below(5000),
+                _ => random.below(100),
+            };
+            (0, random.bytes(length))
+        }
+        2..=4 => (1, address_value(random, false)),
+        5..=7 => (2, address_value(random, true)),
+        8..=10 => (3, route_value(random)),
+        _ => {
+            let length = random.pick(&[0, 1, 10, 63, 64, 4096, 4097, 5000, 17000]);
+            (random.edge_number().max(4), random.bytes(length))
+        }
+    };
+    let length = match random.below(24) {
+        0 => value.len() as u64 + 1,
+        1 => (value.len() as u64).saturating_sub(1),
+        2 => random.edge_number(),
+        3 => random.pick(&[(1 << 62) - 1, 4096, 4097, 1 << 32]),
+        _ => value.len() as u64,
+    };
+    let mut bytes = wire_number(random, kind);
+    bytes.extend(wire_number(random, length));
+    bytes.extend(value);
+    match random.below(16) {
+        0 => flip(random, &mut bytes),
+        1 => bytes.truncate(random.below(bytes.len() + 1)),
+        2 => {
+            let at = random.below(bytes.len());
+            bytes.remove(at);
+        }
+        3 => bytes.insert(random.below(bytes.len() + 1), random.byte()),
+        _ => {}
+    }
+    bytes
+}
+
+/// A bit or a byte changed.
+pub fn flip(random: &mut Random, bytes: &mut [u8]) {
+    if !bytes.is_empty() {
+        let at = random.below(bytes.len());
+        bytes[at] = if random.once_in(2) { bytes[at] ^ 1 << random.below(8) } else { random.byte() };
+    }
+}

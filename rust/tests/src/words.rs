@@ -1,0 +1,153 @@
+//! The words of a state, as `include/whapirohi.h` lays them out, and the reference's types.
+//!
+//! Bits of a word above the version and the prefix or protocol, and above a static byte, mean nothing; a template's third word says that there
+//! is a checksum where it is not 0. Unused words mean nothing and are 0 where words are made here.
+
+use whapirohi_reference::{
+    AddressEntry, AddressList, Checksum, ContextId, Grants, List, Plan, RequestId, RouteList, RouteRange, Segment,
+    Template,
+};
+use whapirohi_tunnel::{AddressWords, PlanWords, RouteWords, State, ADDRESS_WORDS, PLAN_WORDS, ROUTE_WORDS};
+
+pub const ENTRY_WORDS: usize = 4;
+pub const RANGE_WORDS: usize = 5;
+pub const TEMPLATE_WORDS: usize = 149;
+
+/// Where the words of a template hold what.
+pub const SEGMENT_COUNT: usize = 1;
+pub const FLAG: usize = 2;
+pub const FIELD: usize = 3;
+pub const START: usize = 4;
+pub const SEGMENTS: usize = 5;
+pub const BYTES: usize = 21;
+
+pub fn empty_state() -> State {
+    State {
+        received_addresses: [0; ADDRESS_WORDS],
+        received_routes: [0; ROUTE_WORDS],
+        given_addresses: [0; ADDRESS_WORDS],
+        given_routes: [0; ROUTE_WORDS],
+        plan: [0; PLAN_WORDS],
+    }
+}
+
+pub fn state_of(grants: &Grants, plan: &Plan) -> State {
+    State {
+        received_addresses: address_words(&grants.received_addresses),
+        received_routes: route_words(&grants.received_routes),
+        given_addresses: address_words(&grants.given_addresses),
+        given_routes: route_words(&grants.given_routes),
+        plan: plan_words(plan),
+    }
+}
+
+/// The state of the other end: its received lists are this one's given lists and the other way round.
+pub fn mirrored(state: &State) -> State {
+    State {
+        received_addresses: state.given_addresses,
+        received_routes: state.given_routes,
+        given_addresses: state.received_addresses,
+        given_routes: state.received_routes,
+        plan: state.plan,
+    }
+}
+
+pub fn grants_of(state: &State) -> Grants {
+    Grants {
+        received_addresses: address_list(&state.received_addresses),
+        received_routes: route_list(&state.received_routes),
+        given_addresses: address_list(&state.given_addresses),
+        given_routes: route_list(&state.given_routes),
+    }
+}
+
+pub fn address_list(words: &AddressWords) -> AddressList {
+    let mut list = AddressList { count: words[0] as usize, ..List::default() };
+    for (entry, w) in list.items.iter_mut().zip(words[1..].chunks_exact(ENTRY_WORDS)) {
+        let [version, prefix, ..] = w[1].to_le_bytes();
+        *entry = AddressEntry { request_id: RequestId(w[0]), version, prefix, address: wide(w[2], w[3]) };
+    }
+    list
+}
+
+pub fn address_words(list: &AddressList) -> AddressWords {
+    let mut words = [0; ADDRESS_WORDS];
+    words[0] = list.count as u64;
+    for (entry, w) in list.stored().iter().zip(words[1..].chunks_exact_mut(ENTRY_WORDS)) {
+        let (high, low) = halves(entry.address);
+        w.copy_from_slice(&[entry.request_id.0, u64::from(entry.version) + 256 * u64::from(entry.prefix), high, low]);
+    }
+    words
+}
+
+pub fn route_list(words: &RouteWords) -> RouteList {
+    let mut list = RouteList { count: words[0] as usize, ..List::default() };
+    for (range, w) in list.items.iter_mut().zip(words[1..].chunks_exact(RANGE_WORDS)) {
+        let [version, protocol, ..] = w[0].to_le_bytes();
+        *range = RouteRange { version, protocol, start: wide(w[1], w[2]), end: wide(w[3], w[4]) };
+    }
+    list
+}
+
+pub fn route_words(list: &RouteList) -> RouteWords {
+    let mut words = [0; ROUTE_WORDS];
+    words[0] = list.count as u64;
+    for (range, w) in list.stored().iter().zip(words[1..].chunks_exact_mut(RANGE_WORDS)) {
+        let (start_high, start_low) = halves(range.start);
+        let (end_high, end_low) = halves(range.end);
+        let kind = u64::from(range.version) + 256 * u64::from(range.protocol);
+        w.copy_from_slice(&[kind, start_high, start_low, end_high, end_low]);
+    }
+    words
+}
+
+pub fn plan_of(words: &PlanWords) -> Plan {
+    let mut plan = Plan { templates: List { count: words[0] as usize, ..List::default() } };
+    for (template, w) in plan.templates.items.iter_mut().zip(words[1..].chunks_exact(TEMPLATE_WORDS)) {
+        *template = template_of(w);
+    }
+    plan
+}
+
+fn template_of(w: &[u64]) -> Template {
+    let mut template = Template { id: ContextId(w[0]), ..Template::default() };
+    template.segments.count = w[SEGMENT_COUNT] as usize;
+    for (segment, s) in template.segments.items.iter_mut().zip(w[SEGMENTS..BYTES].chunks_exact(2)) {
+        *segment = Segment { offset: s[0] as usize, length: s[1] as usize };
+    }
+    for (byte, b) in template.bytes.iter_mut().zip(&w[BYTES..]) {
+        *byte = *b as u8;
+    }
+    template.checksum = (w[FLAG] != 0).then_some(Checksum { field: w[FIELD] as usize, start: w[START] as usize });
+    template
+}
+
+pub fn plan_words(plan: &Plan) -> PlanWords {
+    let mut words = [0; PLAN_WORDS];
+    words[0] = plan.templates.count as u64;
+    for (template, w) in plan.templates.stored().iter().zip(words[1..].chunks_exact_mut(TEMPLATE_WORDS)) {
+        w[0] = template.id.0;
+        w[SEGMENT_COUNT] = template.segments.count as u64;
+        if let Some(checksum) = template.checksum {
+            w[FLAG] = 1;
+            w[FIELD] = checksum.field as u64;
+            w[START] = checksum.start as u64;
+        }
+        for (n, segment) in template.segments.stored().iter().enumerate() {
+            w[SEGMENTS + 2 * n] = segment.offset as u64;
+            w[SEGMENTS + 2 * n + 1] = segment.length as u64;
+            for p in segment.offset..segment.end() {
+                w[BYTES + p] = u64::from(template.bytes[p]);
+            }
+        }
+    }
+    words
+}
+
+fn wide(high: u64, low: u64) -> u128 {
+    u128::from(high) << 64 | u128::from(low)
+}
+
+fn halves(address: u128) -> (u64, u64) {
+    ((address >> 64) as u64, address as u64)
+}

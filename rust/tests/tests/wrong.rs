@@ -1,0 +1,207 @@
+//! The tests themselves: subjects that are wrong in one thing each are found out.
+
+use whapirohi_differential::compare::Run;
+use whapirohi_differential::families::FAMILIES;
+use whapirohi_differential::random::Random;
+use whapirohi_differential::subject::{Model, Subject};
+use whapirohi_differential::words::{address_list, address_words};
+use whapirohi_reference::number;
+use whapirohi_reference::packet::{complete, put_word, seed, sum};
+use whapirohi_tunnel::{AddressWords, Answer, Capsule, Number, RouteWords, State};
+
+#[derive(Clone, Copy, Debug, PartialEq)]
+enum Slip {
+    None,
+    RefusesEverything,
+    AlwaysInFull,
+    LastTemplateUnknown,
+    ListsUntouched,
+    FirstEntryOnly,
+    ListsMerged,
+    MadeUpCount,
+    UnusedWordsLeft,
+    PlaceMovedOnRefusal,
+    BytePastTheLength,
+    OutputTouchedOnRefusal,
+    StateTouchedOnRefusal,
+    TransportChecksumMended,
+    HopCountLoweredOnReceiving,
+    LongContextIdRefused,
+    JunkKeptOutOfTheGivenList,
+    LongNumberTaken,
+    PlanKeptOnLoading,
+}
+
+struct Wrong(Slip);
+
+impl Wrong {
+    fn wrote(&self, answer: Answer, out: &mut [u8]) -> Answer {
+        let length = answer.length as usize;
+        if self.0 == Slip::BytePastTheLength && answer.number == 0 && length < out.len() {
+            out[length] ^= 1;
+        }
+        if self.0 == Slip::OutputTouchedOnRefusal && answer.number != 0 && !out.is_empty() {
+            out[0] ^= 1;
+        }
+        answer
+    }
+}
+
+impl Subject for Wrong {
+    fn start(&self, state: &mut State) {
+        Model.start(state)
+    }
+
+    fn load_plan(&self, state: &mut State, file: &[u8]) -> u64 {
+        let plan = state.plan;
+        let number = Model.load_plan(state, file);
+        if self.0 == Slip::PlanKeptOnLoading {
+            state.plan = plan;
+        }
+        if self.0 == Slip::LongNumberTaken && number == 24 {
+            return 0;
+        }
+        number
+    }
+
+    fn write_plan(&self, state: &State, out: &mut [u8]) -> Answer {
+        let answer = Model.write_plan(state, out);
+        self.wrote(answer, out)
+    }
+
+    fn read_capsule(&self, state: &mut State, bytes: &[u8], at: usize, requested: &mut AddressWords) -> Capsule {
+        let before = state.clone();
+        let mut capsule = Model.read_capsule(state, bytes, at, requested);
+        match self.0 {
+            Slip::ListsUntouched => *state = before,
+            Slip::FirstEntryOnly if capsule.number == 0 && capsule.kind == 1 => {
+                let mut list = address_list(&state.received_addresses);
+                list.count = list.count.min(1);
+                state.received_addresses = address_words(&list);
+            }
+            Slip::ListsMerged if capsule.number == 0 && capsule.kind == 1 => {
+                let mut list = address_list(&state.received_addresses);
+                let old = address_list(&before.received_addresses);
+                for entry in old.stored() {
+                    if list.count < list.items.len() {
+                        list.items[list.count] = *entry;
+                        list.count += 1;
+                    }
+                }
+                state.received_addresses = address_words(&list);
+            }
+            Slip::MadeUpCount if capsule.kind == 4 => capsule.next += 1,
+            Slip::UnusedWordsLeft if capsule.number == 0 && capsule.kind == 2 => requested[64] |= 1,
+            Slip::PlaceMovedOnRefusal if capsule.number == 1 => capsule.next = bytes.len() as u64,
+            Slip::StateTouchedOnRefusal if capsule.number == 3 => state.received_addresses[0] = 0,
+            _ => {}
+        }
+        capsule
+    }
+
+    fn write_assign(&self, state: &mut State, list: &AddressWords, out: &mut [u8]) -> Answer {
+        let answer = Model.write_assign(state, list, out);
+        if self.0 == Slip::JunkKeptOutOfTheGivenList && answer.number == 0 {
+            state.given_addresses = address_words(&address_list(list));
+        }
+        self.wrote(answer, out)
+    }
+
+    fn write_routes(&self, state: &mut State, list: &RouteWords, out: &mut [u8]) -> Answer {
+        let answer = Model.write_routes(state, list, out);
+        self.wrote(answer, out)
+    }
+
+    fn send(&self, state: &State, packet: &[u8], out: &mut [u8]) -> Answer {
+        let mut state = state.clone();
+        let mut packet = packet.to_vec();
+        match self.0 {
+            Slip::RefusesEverything => return Answer { number: 12, length: 0 },
+            Slip::AlwaysInFull => state.plan[0] = 0,
+            Slip::LastTemplateUnknown if state.plan[0] <= 8 => state.plan[0] = state.plan[0].saturating_sub(1),
+            Slip::TransportChecksumMended if packet.len() >= 28 && packet[0] == 0x45 => {
+                put_word(&mut packet, 26, 0);
+                let words = sum(&packet[20..]) + u32::from(seed(&packet, packet.len(), 20));
+                let checksum = complete(words, packet[9] == 17);
+                put_word(&mut packet, 26, checksum);
+            }
+            _ => {}
+        }
+        let answer = Model.send(&state, &packet, out);
+        self.wrote(answer, out)
+    }
+
+    fn receive(&self, state: &State, datagram: &[u8], out: &mut [u8]) -> Answer {
+        if self.0 == Slip::LongContextIdRefused
+            && number::parse(datagram).is_some_and(|(id, size)| size > number::size(id))
+        {
+            return Answer { number: 13, length: 0 };
+        }
+        let answer = Model.receive(state, datagram, out);
+        if self.0 == Slip::HopCountLoweredOnReceiving && answer.number == 0 && out[0] >> 4 == 6 {
+            out[7] = out[7].wrapping_sub(1);
+        }
+        self.wrote(answer, out)
+    }
+
+    fn read_number(&self, bytes: &[u8]) -> Number {
+        Model.read_number(bytes)
+    }
+
+    fn write_number(&self, value: u64, out: &mut [u8]) -> Answer {
+        let answer = Model.write_number(value, out);
+        self.wrote(answer, out)
+    }
+
+    fn write_datagram(&self, value: &[u8], out: &mut [u8]) -> Answer {
+        let answer = Model.write_datagram(value, out);
+        self.wrote(answer, out)
+    }
+
+    fn write_request(&self, list: &AddressWords, out: &mut [u8]) -> Answer {
+        let answer = Model.write_request(list, out);
+        self.wrote(answer, out)
+    }
+}
+
+fn faults(slip: Slip) -> u64 {
+    let subject = Wrong(slip);
+    let mut faults = 0;
+    for (_, family, _) in FAMILIES {
+        let mut run = Run::new(&subject);
+        family(&mut run, &mut Random::new(1), 4_000);
+        faults += run.faults;
+    }
+    faults
+}
+
+#[test]
+fn wrong_subjects_are_found_out() {
+    for slip in [
+        Slip::RefusesEverything,
+        Slip::AlwaysInFull,
+        Slip::LastTemplateUnknown,
+        Slip::ListsUntouched,
+        Slip::FirstEntryOnly,
+        Slip::ListsMerged,
+        Slip::MadeUpCount,
+        Slip::UnusedWordsLeft,
+        Slip::PlaceMovedOnRefusal,
+        Slip::BytePastTheLength,
+        Slip::OutputTouchedOnRefusal,
+        Slip::StateTouchedOnRefusal,
+        Slip::TransportChecksumMended,
+        Slip::HopCountLoweredOnReceiving,
+        Slip::LongContextIdRefused,
+        Slip::JunkKeptOutOfTheGivenList,
+        Slip::LongNumberTaken,
+        Slip::PlanKeptOnLoading,
+    ] {
+        assert!(faults(slip) > 0, "{slip:?} is not noticed");
+    }
+}
+
+#[test]
+fn the_model_is_not_wrong() {
+    assert_eq!(faults(Slip::None), 0);
+}

@@ -1,0 +1,93 @@
+//! The proved van tunnel box for Rust hosts.
+//!
+//! The host owns a [`State`] and lends it to each call; nothing is kept between calls and nothing is allocated. Every call answers, whatever
+//! it is handed: number 0, or the number of the refusal, which alters nothing. The C header `include/whapirohi.h` says the same for C hosts.
+#![deny(unsafe_code)]
+
+#[cfg(feature = "link")]
+mod library;
+#[cfg(feature = "link")]
+pub use library::{read_number, state_size, write_datagram, write_number, write_request};
+
+/// Words of a list of addresses: the count, then 4 words for each of 16 entries.
+pub const ADDRESS_WORDS: usize = 65;
+/// Words of a list of ranges: the count, then 5 words for each of 64 ranges.
+pub const ROUTE_WORDS: usize = 321;
+/// Words of a plan: the count, then 149 words for each of 8 templates.
+pub const PLAN_WORDS: usize = 1193;
+
+/// The least lent outputs.
+pub const NUMBER_ROOM: usize = 8;
+pub const PLAN_ROOM: usize = 1400;
+pub const RECEIVE_ROOM: usize = 1500;
+pub const SEND_ROOM: usize = 1508;
+pub const CAPSULE_ROOM: usize = 4104;
+
+pub type AddressWords = [u64; ADDRESS_WORDS];
+pub type RouteWords = [u64; ROUTE_WORDS];
+pub type PlanWords = [u64; PLAN_WORDS];
+
+/// The lists and the plan in force, in words: the header's `whapirohi_state`.
+#[derive(Clone, Debug, PartialEq, Eq)]
+#[repr(C)]
+pub struct State {
+    pub received_addresses: AddressWords,
+    pub received_routes: RouteWords,
+    pub given_addresses: AddressWords,
+    pub given_routes: RouteWords,
+    pub plan: PlanWords,
+}
+
+const _: () = assert!(size_of::<State>() == 8 * (2 * ADDRESS_WORDS + 2 * ROUTE_WORDS + PLAN_WORDS));
+const _: () = assert!(size_of::<State>() == 15720);
+
+/// The answer of a call that writes: the number, and how many bytes stand at the front of the output (0 with a refusal).
+#[derive(Clone, Copy, Debug, PartialEq, Eq)]
+#[repr(C)]
+pub struct Answer {
+    pub number: u64,
+    pub length: u64,
+}
+
+/// A number that was read: its value and how many bytes it took (both 0 with a refusal).
+#[derive(Clone, Copy, Debug, PartialEq, Eq)]
+#[repr(C)]
+pub struct Number {
+    pub number: u64,
+    pub value: u64,
+    pub size: u64,
+}
+
+/// A capsule that was read. `kind`: 0 DATAGRAM, 1 ADDRESS_ASSIGN, 2 ADDRESS_REQUEST, 3 ROUTE_ADVERTISEMENT, 4 any other type. `start` and
+/// `length`: where the value of a DATAGRAM stands in the bytes. `next`: where the next capsule starts; with a refusal the place as it was.
+#[derive(Clone, Copy, Debug, PartialEq, Eq)]
+#[repr(C)]
+pub struct Capsule {
+    pub number: u64,
+    pub kind: u64,
+    pub start: u64,
+    pub length: u64,
+    pub next: u64,
+}
+
+/// The number of a refusal.
+#[derive(Clone, Copy, Debug, PartialEq, Eq)]
+pub struct Refusal(pub u64);
+
+impl std::fmt::Display for Refusal {
+    fn fmt(&self, f: &mut std::fmt::Formatter<'_>) -> std::fmt::Result {
+        write!(f, "refused {}", self.0)
+    }
+}
+
+impl std::error::Error for Refusal {}
+
+impl Answer {
+    /// How many bytes were written.
+    pub fn written(self) -> Result<usize, Refusal> {
+        match self.number {
+            0 => Ok(self.length as usize),
+            number => Err(Refusal(number)),
+        }
+    }
+}

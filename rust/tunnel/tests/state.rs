@@ -1,0 +1,43 @@
+//! The state that Rust lends is the state that the library expects, and the drivers' packet goes there and back.
+#![cfg(feature = "link")]
+
+use whapirohi_tunnel::{state_size, State, ADDRESS_WORDS};
+
+#[test]
+fn size_of_the_state() {
+    assert_eq!(state_size(), size_of::<State>() as u64);
+    assert_eq!(state_size(), 15720);
+}
+
+#[test]
+fn drivers_packet_there_and_back() {
+    let mut van = State::new();
+    let mut clinic = State::new();
+    let plan = b"VAN\x00\x01\x01\x02\x01\x0C\x0C\xC0\x00\x02\x03\xC6\x33\x64\x02\x03\xE8\x07\xD0\x01\x1A\x14";
+    assert_eq!((van.load_plan(plan), clinic.load_plan(plan)), (0, 0));
+
+    // 192.0.2.3/32, and UDP to 198.51.100.2.
+    let mut addresses = [0; ADDRESS_WORDS];
+    addresses[..5].copy_from_slice(&[1, 0, 4 + 256 * 32, 0, 0xC000_0203]);
+    let mut routes = [0; 321];
+    routes[..6].copy_from_slice(&[1, 4 + 256 * 17, 0, 0xC633_6402, 0, 0xC633_6402]);
+    let mut capsules = [[0; 4104]; 2];
+    let assigned = clinic.write_assign(&addresses, &mut capsules[0]).written().unwrap();
+    let advertised = clinic.write_routes(&routes, &mut capsules[1]).written().unwrap();
+    let stream = [&capsules[0][..assigned], &capsules[1][..advertised]].concat();
+    let mut requested = [0; ADDRESS_WORDS];
+    let first = van.read_capsule(&stream, 0, &mut requested);
+    assert_eq!((first.number, first.kind, first.next), (0, 1, assigned as u64));
+    let second = van.read_capsule(&stream, assigned, &mut requested);
+    assert_eq!((second.number, second.kind, second.next), (0, 3, stream.len() as u64));
+
+    let packet = b"\x45\x00\x00\x1C\x00\x00\x00\x00\x40\x11\x8E\x98\xC0\x00\x02\x03\xC6\x33\x64\x02\x03\xE8\x07\xD0\x00\x08\x07\xED";
+    let mut datagram = [0; 1508];
+    let sent = van.send(packet, &mut datagram).written().unwrap();
+    assert_eq!(datagram[..sent], *b"\x02\x45\x00\x00\x1C\x00\x00\x00\x00\x3F\x11\x8F\x98\x00\x08\xEC\x52");
+    let mut out = [0; 1500];
+    let received = clinic.receive(&datagram[..sent], &mut out).written().unwrap();
+    let mut lowered = *packet;
+    lowered[8..12].copy_from_slice(b"\x3F\x11\x8F\x98");
+    assert_eq!(out[..received], lowered);
+}
