@@ -1,2 +1,3 @@
 pub mod Lent
 pub mod Sound
+pub mod Words

@@ -1,10 +1,15 @@
 // A plan in words that a host owns and lends: no packet pays for a copy of it.
 // Word 0 is the count of templates. Each template has 149 words after it: Context ID, count of segments, a checksum or not, field, start,
 // 8 segments of two words, and an image of a packet's first 128 bytes, a byte in each word. What stands past a count is ignored.
+mod by_value; // by_value.rt: a lent plan by value again
+mod putting; // putting.rt: a plan put into lent words
 mod rules; // rules.rt: whether a lent plan keeps its rules
 
+pub use by_value::plan_of;
 use plan::ContextId;
 use plan::Segment;
+pub use putting::lend;
+pub use putting::read_plan;
 pub use rules::lent_sound;
 ghost use mathlib.Core.Path.{_≡_};
 ghost use Prim.Native.Nat.{_<_};

@@ -16,8 +16,7 @@ use Rattle.template.specs.Usable.{UsableTemplate, piecesOf}
 use Rattle.octets.proofs.Scans.{length-from}
 use Rattle.template.proofs.Steps.{window-length, piecesFrom, pieces-all, pieces-step, pieces-done, shapesFrom, shapes-all, shapes-step, shapes-done}
 use Rattle.output.specs.Places.{Put}
-use Rattle.output.proofs.Placing.{put-then, put-as}
-use Rattle.plan_write.proofs.Placing.{Putting, putting-first}
+use Rattle.output.proofs.Placing.{put-then, put-as, Putting, putting-first}
 
 -- ---- a segment
 

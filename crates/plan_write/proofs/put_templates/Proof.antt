@@ -4,7 +4,7 @@ use native.Mathlib.Omega.{arith}
 use Rattle.plan.specs.Shapes.{shapesOf}
 use Rattle.plan.specs.File.{shapesBytes}
 use Rattle.template.proofs.Steps.{shapesFrom}
-use Rattle.plan_write.proofs.Placing.{Putting, putting-none, putting-more, putting-done}
+use Rattle.output.proofs.Placing.{Putting, putting-none, putting-more, putting-done}
 use Rattle.plan_write.proofs.Parts.{shapes-start, shapes-more, shape-room, shapes-none}
 use Rattle.plan_write.proofs.put_templates.Statement.{statement}
 use Rattle.plan_write.proofs.put_templates.Tie as tie

@@ -6,7 +6,7 @@ use lib.ListN.{length}
 use Rattle.plan.specs.File.{piecesBytes}
 use Rattle.template.specs.Usable.{piecesOf}
 use Rattle.template.proofs.Steps.{piecesFrom}
-use Rattle.plan_write.proofs.Placing.{Putting, putting-none, putting-more, putting-done}
+use Rattle.output.proofs.Placing.{Putting, putting-none, putting-more, putting-done}
 use Rattle.plan_write.proofs.Parts.{pieces-start, pieces-more, piece-room, pieces-none}
 use borrow.Author.Needs.{needs}
 use Rattle.plan_write.proofs.template_file.put_segments.Statement.{statement}
