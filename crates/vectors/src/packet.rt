@@ -22,15 +22,9 @@ fn mirrored(g: Grants) -> Grants {
     some.with_given_routes(routes)
 }
 
-// A plan file's plan in lent words.
-fn load(file: &[u8], words: &mut [u64; PLAN_WORDS]) {
-    let r = plan::read_plan(file);
-    lent_plan::lend(r.plan, words);
-}
-
 pub(crate) fn packets() {
     let mut plan = [0u64; PLAN_WORDS];
-    load(
+    lent_plan::read_plan(
         b"\x56\x41\x4e\x00\x01\x01\x02\x01\x0c\x0c\xc0\x00\x02\x03\xc6\x33\x64\x02\x03\xe8\x07\xd0\x01\x1a\x14",
         &mut plan,
     );
@@ -40,6 +34,14 @@ pub(crate) fn packets() {
 
 fn sending(plan: &[u64; PLAN_WORDS]) {
     crate::text(b"sending\n");
+    sent_checksums(plan);
+    sent_hops(plan);
+    sent_judged(plan);
+    sent_limits(plan);
+}
+
+// Checksums of the packet; the second template holds no ports.
+fn sent_checksums(plan: &[u64; PLAN_WORDS]) {
     sent(
         b"example",
         plan,
@@ -56,7 +58,7 @@ fn sending(plan: &[u64; PLAN_WORDS]) {
         b"\x45\x00\x00\x1c\x00\x00\x00\x00\x40\x11\x8e\x98\xc0\x00\x02\x03\xc6\x33\x64\x02\x03\xe8\x07\xd0\x00\x08\x00\x00",
     );
     let mut ports = [0u64; PLAN_WORDS];
-    load(
+    lent_plan::read_plan(
         b"\x56\x41\x4e\x00\x01\x01\x03\x01\x0c\x08\xc0\x00\x02\x03\xc6\x33\x64\x02\x01\x1a\x14",
         &mut ports,
     );
@@ -65,6 +67,9 @@ fn sending(plan: &[u64; PLAN_WORDS]) {
         &ports,
         b"\x45\x00\x00\x1c\x00\x00\x00\x00\x40\x11\x8e\x98\xc0\x00\x02\x03\xc6\x33\x64\x02\x03\xe8\x0f\xbd\x00\x08\xff\xff",
     );
+}
+
+fn sent_hops(plan: &[u64; PLAN_WORDS]) {
     sent(
         b"hop count 1",
         plan,
@@ -80,6 +85,10 @@ fn sending(plan: &[u64; PLAN_WORDS]) {
         plan,
         b"\x45\x00\x00\x1c\x00\x00\x00\x00\x00\x11\xce\x98\xc0\x00\x02\x03\xc6\x33\x64\x02\x03\xe8\x07\xd0\x00\x08\x07\xed",
     );
+}
+
+// Packets of bad form, and of other flows.
+fn sent_judged(plan: &[u64; PLAN_WORDS]) {
     sent(b"empty", plan, b"");
     sent(
         b"header checksum wrong",
@@ -101,6 +110,10 @@ fn sending(plan: &[u64; PLAN_WORDS]) {
         plan,
         b"\x45\x00\x00\x1c\x00\x00\x00\x00\x40\x01\x8e\xa8\xc0\x00\x02\x03\xc6\x33\x64\x02\x03\xe8\x07\xd0\x00\x08\x07\xed",
     );
+}
+
+// The packet's limit, a broken state and a small output.
+fn sent_limits(plan: &[u64; PLAN_WORDS]) {
     let longest = longest_packet();
     counted(b"1500 bytes", plan, &longest);
     let long = [0u8; 1501];
@@ -120,6 +133,12 @@ fn sending(plan: &[u64; PLAN_WORDS]) {
 
 fn receiving(plan: &[u64; PLAN_WORDS]) {
     crate::text(b"receiving\n");
+    received_forms(plan);
+    received_cut(plan);
+    received_judged(plan);
+}
+
+fn received_forms(plan: &[u64; PLAN_WORDS]) {
     received(
         b"short form",
         plan,
@@ -135,6 +154,10 @@ fn receiving(plan: &[u64; PLAN_WORDS]) {
         plan,
         b"\x40\x02\x45\x00\x00\x1c\x00\x00\x00\x00\x3f\x11\x8f\x98\x00\x08\xec\x52",
     );
+}
+
+// Context IDs and bodies that are cut or unknown.
+fn received_cut(plan: &[u64; PLAN_WORDS]) {
     received(b"no bytes", plan, b"");
     received(b"cut Context ID", plan, b"\x40");
     received(
@@ -152,6 +175,10 @@ fn receiving(plan: &[u64; PLAN_WORDS]) {
         plan,
         b"\x02\x45\x00\x00\x1c\x00\x00\x00\x00\x3f\x11\x8f\x98\x00",
     );
+}
+
+// Packets that are not taken in, other lists and a small output.
+fn received_judged(plan: &[u64; PLAN_WORDS]) {
     received(
         b"bad form",
         plan,
