@@ -4,6 +4,7 @@ mod packet; // packet.rt: sending and receiving
 mod plan_file; // plan_file.rt: plan files
 
 use answer::Answer;
+use answer::Refusal;
 use capsule::Outcome;
 use libc::STDOUT_FILENO;
 use varint::NumberRead;
@@ -38,11 +39,7 @@ fn number(bytes: &[u8]) {
     let r = varint::read(bytes);
     match r {
         NumberRead::Whole { value, size } => {
-            decimal(value);
-            text(b" in ");
-            decimal(size as u64);
-            text(b" written ");
-            written(value);
+            whole(value, size);
         }
         NumberRead::Cut => {
             text(b"refused ");
@@ -50,6 +47,14 @@ fn number(bytes: &[u8]) {
         }
     }
     text(b"\n");
+}
+
+fn whole(value: u64, size: usize) {
+    decimal(value);
+    text(b" in ");
+    decimal(size as u64);
+    text(b" written ");
+    written(value);
 }
 
 // Each capsule is read from the front of a buffer.
@@ -164,12 +169,10 @@ fn capsule(name: &[u8], bytes: &[u8]) {
             elements(b"advertised ", list.words[0], next);
         }
         Outcome::Skipped { next } => {
-            text(b"skipped next ");
-            decimal(next as u64);
+            skipped(next);
         }
         Outcome::Refused(why) => {
-            text(b"refused ");
-            decimal(why.number() as u64);
+            refused(why);
         }
     }
     text(b"\n");
@@ -188,6 +191,11 @@ fn elements(kind: &[u8], count: u64, next: usize) {
     text(kind);
     decimal(count);
     text(b" next ");
+    decimal(next as u64);
+}
+
+fn skipped(next: usize) {
+    text(b"skipped next ");
     decimal(next as u64);
 }
 
@@ -210,13 +218,17 @@ fn cut(bytes: &[u8]) {
 fn written(value: u64) {
     let mut out = [0u8; 8];
     let a = varint::write(value, &mut out);
+    front_or_refused(a, &out);
+}
+
+// The bytes that were written, or the refusal.
+fn front_or_refused(a: Answer, out: &[u8]) {
     match a {
         Answer::Done(n) => {
-            hex_front(&out, n);
+            hex_front(out, n);
         }
         Answer::Refused(why) => {
-            text(b"refused ");
-            decimal(why.number() as u64);
+            refused(why);
         }
     }
 }
@@ -226,6 +238,11 @@ fn hex_front(bytes: &[u8], n: usize) {
     if n <= bytes.len() {
         hex(&bytes[..n]);
     }
+}
+
+fn refused(why: Refusal) {
+    text(b"refused ");
+    decimal(why.number() as u64);
 }
 
 fn text(bytes: &[u8]) {

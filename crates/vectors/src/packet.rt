@@ -118,9 +118,8 @@ fn sent_limits(plan: &[u64; PLAN_WORDS]) {
     counted(b"1500 bytes", plan, &longest);
     let long = [0u8; 1501];
     sent(b"1501 bytes", plan, &long);
-    sent_by(
+    sent_broken(
         b"broken list",
-        broken(grants()),
         plan,
         b"\x45\x00\x00\x1c\x00\x00\x00\x00\x40\x11\x8e\x98\xc0\x00\x02\x03\xc6\x33\x64\x02\x03\xe8\x07\xd0\x00\x08\x07\xed",
     );
@@ -190,15 +189,13 @@ fn received_judged(plan: &[u64; PLAN_WORDS]) {
         b"\x00\x45\x00\x00\x1c\x00\x00\x00\x00\x40\x11\x8e\x97\xc0\x00\x02\x03\xc6\x33\x64\x03\x03\xe8\x07\xd0\x00\x08\x07\xed",
     );
     received(b"1501 bytes in full", plan, &long_datagram());
-    received_by(
+    received_broken(
         b"broken list",
-        broken(mirrored(grants())),
         plan,
         b"\x02\x45\x00\x00\x1c\x00\x00\x00\x00\x3f\x11\x8f\x98\x00\x08\xec\x52",
     );
-    received_by(
+    received_here(
         b"this end's own lists",
-        grants(),
         plan,
         b"\x02\x45\x00\x00\x1c\x00\x00\x00\x00\x3f\x11\x8f\x98\x00\x08\xec\x52",
     );
@@ -247,6 +244,10 @@ fn sent<'a>(name: &'a [u8], plan: &'a [u64; PLAN_WORDS], packet: &'a [u8]) {
     sent_by(name, grants(), plan, packet);
 }
 
+fn sent_broken<'a>(name: &'a [u8], plan: &'a [u64; PLAN_WORDS], packet: &'a [u8]) {
+    sent_by(name, broken(grants()), plan, packet);
+}
+
 fn sent_by<'a>(name: &'a [u8], g: Grants, plan: &'a [u64; PLAN_WORDS], packet: &'a [u8]) {
     let mut out = [0u8; 1508];
     let a = tunnel::send(g, plan, packet, &mut out);
@@ -277,6 +278,14 @@ fn received<'a>(name: &'a [u8], plan: &'a [u64; PLAN_WORDS], datagram: &'a [u8])
     received_by(name, mirrored(grants()), plan, datagram);
 }
 
+fn received_broken<'a>(name: &'a [u8], plan: &'a [u64; PLAN_WORDS], datagram: &'a [u8]) {
+    received_by(name, broken(mirrored(grants())), plan, datagram);
+}
+
+fn received_here<'a>(name: &'a [u8], plan: &'a [u64; PLAN_WORDS], datagram: &'a [u8]) {
+    received_by(name, grants(), plan, datagram);
+}
+
 fn received_by<'a>(name: &'a [u8], g: Grants, plan: &'a [u64; PLAN_WORDS], datagram: &'a [u8]) {
     let mut out = [0u8; 1500];
     let a = tunnel::receive(g, plan, datagram, &mut out);
@@ -293,14 +302,6 @@ fn received_small<'a>(name: &'a [u8], plan: &'a [u64; PLAN_WORDS], datagram: &'a
 fn shown(name: &[u8], a: Answer, out: &[u8]) {
     crate::text(name);
     crate::text(b": ");
-    match a {
-        Answer::Done(n) => {
-            crate::hex_front(out, n);
-        }
-        Answer::Refused(why) => {
-            crate::text(b"refused ");
-            crate::decimal(why.number() as u64);
-        }
-    }
+    crate::front_or_refused(a, out);
     crate::text(b"\n");
 }

@@ -1,6 +1,6 @@
 // Plan files: read, and those that are good written again.
-use answer::Answer;
 use answer::Verdict;
+use plan::Plan;
 
 pub(crate) fn plans() {
     crate::text(b"plans\n");
@@ -103,23 +103,18 @@ fn plan_file(name: &[u8], bytes: &[u8]) {
         Verdict::Go => {
             let found = r.plan;
             crate::decimal(found.count as u64);
-            crate::text(b" written ");
-            let mut out = [0u8; 1400];
-            let a = plan_write::write_plan(found, &mut out);
-            match a {
-                Answer::Done(n) => {
-                    crate::hex_front(&out, n);
-                }
-                Answer::Refused(why) => {
-                    crate::text(b"refused ");
-                    crate::decimal(why.number() as u64);
-                }
-            }
+            written(found);
         }
         Verdict::Stop(why) => {
-            crate::text(b"refused ");
-            crate::decimal(why.number() as u64);
+            crate::refused(why);
         }
     }
     crate::text(b"\n");
+}
+
+fn written(found: Plan) {
+    let mut out = [0u8; 1400];
+    let a = plan_write::write_plan(found, &mut out);
+    crate::text(b" written ");
+    crate::front_or_refused(a, &out);
 }
