@@ -1,22 +1,21 @@
 -- A plan that is lent means what it meant: its words are a sound plan of the same shapes. Assumes nothing.
-use Prim.Native.Nat.{ℕ, zero, suc, _+_, _%_, _≤_, _<_}
-use mathlib.Core.Path.{_≡_, refl, sym, ap, _∙_}
-use mathlib.Core.Bool.{Bool, true}
-use mathlib.Core.List.{List, [], _∷_, _++_, map}
+use Prim.Native.Nat.{ℕ, zero, suc, _+_, _≤_, _<_}
+use mathlib.Core.Path.{_≡_, refl, ap, _∙_}
+use mathlib.Core.Bool.{true}
+use mathlib.Core.List.{List, _∷_, map}
 use native.Mathlib.Nat.{mod-eq-of-lt}
 use native.Mathlib.Omega.{arith}
 use lib.ListN.{length, getD}
-use Rattle.answer.specs.declared.Verdict.the-variants.{Go, Stop}
+use Rattle.answer.specs.declared.Verdict.the-variants.{Go}
 use Rattle.octets.specs.Big.{Bytes}
 use Rattle.octets.specs.Scan.{from}
-use Rattle.plan.specs.declared.Segment.{Segment}
 use Rattle.plan.specs.declared.Template.{Template}
 use Rattle.plan.specs.declared.Plan.{Plan}
-use Rattle.plan.specs.Shapes.{Piece, Sum, Shape, window, pieceOf, sumOf, segmentAt, segmentsOf, shapeOf, templateAt, shapesOf}
-use Rattle.plan.specs.Rules.{maxTemplates, maxSegments, staticLimit, soundPlan}
+use Rattle.plan.specs.Shapes.{Piece, Sum, Shape, pieceOf, segmentAt, shapeOf, templateAt, shapesOf}
+use Rattle.plan.specs.Rules.{staticLimit, soundPlan}
 use Rattle.plan.specs.Results.{readPlan}
-use Rattle.plan.proofs.PlanFacts.{TemplateFacts, PlanFacts, plan-facts}
-use Rattle.plan.proofs.SoundShapes.{PlanOk, sound-plan, plan-sound}
+use Rattle.plan.proofs.PlanFacts.{TemplateFacts, plan-facts}
+use Rattle.plan.proofs.SoundShapes.{sound-plan, plan-sound}
 use Rattle.lent_plan.specs.Lent.{lentPlan}
 use Rattle.lent_plan.specs.Words.{wordsOf}
 use Rattle.lent_plan.proofs.WordViews.{Same, count-back, template-back}

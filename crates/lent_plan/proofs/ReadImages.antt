@@ -1,23 +1,20 @@
 -- A plan that was read from bytes is sound, and its images hold bytes. Assumes nothing.
-use Prim.Native.Nat.{ℕ, zero, suc, _+_, _≤_, _<_}
-use mathlib.Core.Path.{_≡_, refl, sym, ap, _∙_}
-use mathlib.Core.Bool.{Bool, true}
+use Prim.Native.Nat.{ℕ, zero, suc, _+_, _<_}
+use mathlib.Core.Path.{_≡_, refl}
+use mathlib.Core.Bool.{true}
 use mathlib.Core.List.{List, [], _∷_, _++_, map}
 use native.Mathlib.Omega.{arith}
 use lib.Dec.{lit<}
 use lib.ListN.{length, take, drop, getD, replicate}
 use lib.Seq.{take-append-seam, drop-append-seam}
-use Rattle.answer.specs.declared.Refusal.{Refusal}
-use Rattle.answer.specs.declared.Verdict.{Verdict}
-use Rattle.answer.specs.declared.Verdict.the-variants.{Go, Stop}
+use Rattle.answer.specs.declared.Verdict.the-variants.{Go}
 use Rattle.octets.specs.Big.{Bytes}
 use Rattle.octets.proofs.BigLaws.{bytes-take, bytes-drop}
 use Rattle.varint.specs.Numbers.{encode}
-use Rattle.plan.specs.declared.Template.{Template}
 use Rattle.plan.specs.declared.Plan.{Plan}
 use Rattle.plan.specs.Rules.{maxTemplates, staticLimit, soundPlan}
 use Rattle.plan.specs.Shapes.{Piece, pieceEnd, Shape, noTemplate, templateAt}
-use Rattle.plan.specs.File.{Step, stop, found, mark, version, pieceBytes, piecesBytes, sumBytes, shapeBytes, shapesBytes, planBytes, planIn}
+use Rattle.plan.specs.File.{Step, stop, found, pieceBytes, piecesBytes, sumBytes, shapeBytes, shapesBytes, planBytes, planIn}
 use Rattle.plan.specs.Results.{fill, blankTemplate, imageOf, templateOf, planOf, planResult, readPlan}
 use Rattle.plan.proofs.PlanOf.{read-sound}
 use Rattle.plan.proofs.Written.{written-read}

@@ -1,8 +1,7 @@
 -- The rules of a lent plan, by the cases of the code: what the segments and templates not yet seen say is the answer. Assumes nothing.
 use Prim.Native.Nat.{ℕ, zero, suc, _+_, _-_, _≤_, _<_}
-use mathlib.Core.Bool.{Bool, true, false, not, _&&_, _||_}
+use mathlib.Core.Bool.{Bool, true, false, not, _&&_, _||_, and-false}
 use mathlib.Core.Path.{_≡_, refl, sym, ap, _∙_}
-use mathlib.Core.List.{List, [], _∷_}
 use native.Mathlib.Nat.{sub-zero}
 use native.Mathlib.Omega.{arith}
 use borrow.Author.Tests.{ne-eqb}
@@ -26,12 +25,8 @@ use Rattle.lent_plan.specs.Sound.{pairOr, pairSound, segmentsSound}
 
 -- ---- tests
 
-and-fails : (a : Bool) → (a && false) ≡ false
-and-fails true = refl
-and-fails false = refl
-
 field-taken : (b c x y : Bool) → (not b || c) ≡ false → (x && (not b || (c && y))) ≡ false
-field-taken true false x y e = and-fails x
+field-taken true false x y e = and-false x
 field-taken true true x y e = let z : _≡_ {A = ℕ} 0 1 = cc in absurd (omega arith)
 field-taken false c x y e = let z : _≡_ {A = ℕ} 0 1 = cc in absurd (omega arith)
 
@@ -119,7 +114,7 @@ module _ (previous : ℕ) (t : Template) {h : Head} (q : h ≡ headOf t) where
           ∙ ap goes (template-rest previous t (rw q at i) (rw q at k) refl))
 
       pub lent-pair : pairSound h ≡ false → false ≡ goes (templateFault previous t)
-      lent-pair e = sym (and-fails (goes (segmentsFault 0 (segmentsOf t)))) ∙ rw e at parts
+      lent-pair e = sym (and-false (goes (segmentsFault 0 (segmentsOf t)))) ∙ rw e at parts
 
       pub lent-segments : {r : Bool} → pairSound h ≡ true → r ≡ segmentsSound (h .checksum) (h .field) 0 (from (segmentAt t) 0 (h .count))
           → r ≡ goes (templateFault previous t)

@@ -1,14 +1,13 @@
 -- What the words of a plan say: its templates, as far as their bytes are bytes. Assumes nothing.
-use Prim.Native.Nat.{ℕ, zero, suc, _+_, _-_, _*_, _%_, _≤_, _<_}
+use Prim.Native.Nat.{ℕ, zero, suc, _+_, _*_, _%_, _<_}
 use mathlib.Core.Path.{_≡_, refl, sym, ap, _∙_}
 use mathlib.Core.Bool.{Bool, true, false, not}
-use mathlib.Core.List.{List, [], _∷_, _++_}
+use mathlib.Core.List.{List, _++_}
 use native.Mathlib.Nat.{zero-mul, suc-mul}
 use native.Mathlib.Omega.{arith}
 use lib.Dec.{eqb}
 use lib.ListN.{length, getD, List·getD-append}
 use lib.Seq.{getD-append-add}
-use Rattle.octets.specs.Scan.{from}
 use Rattle.plan.specs.declared.Segment.{Segment}
 use Rattle.plan.specs.declared.Template.{Template}
 use Rattle.plan.specs.declared.Plan.{Plan}
@@ -16,7 +15,7 @@ use Rattle.plan.specs.Rules.{maxTemplates, maxSegments, staticLimit}
 use Rattle.plan.specs.Shapes.{noSegment, segmentAt, templateAt}
 use Rattle.lent_plan.specs.Lent.{templateWords, lentSegment, lentByte, lentTemplate, lentPlan}
 use Rattle.lent_plan.specs.Words.{eachFrom, flagWord, headWords, segmentWords, segmentsWords, imageWords, templateWordsOf, templatesWords, wordsOf}
-use Rattle.lent_plan.proofs.Views.{getD-from, template-lent, segment-lent, byte-lent}
+use Rattle.lent_plan.proofs.Views.{getD-from, template-lent}
 use Rattle.lent_plan.proofs.Wording.{length-head, length-segment, length-segments, length-template}
 
 -- word j of part i, where each part has k words

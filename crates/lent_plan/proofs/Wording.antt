@@ -5,7 +5,7 @@ use mathlib.Core.List.{List, [], _∷_, _++_, append-nil}
 use native.Mathlib.Nat.{sub-zero, zero-mul, suc-mul}
 use native.Mathlib.Numerals.{add-one}
 use native.Mathlib.Omega.{arith}
-use lib.ListN.{length, take, drop, getD, length-append, drop-of-length-le}
+use lib.ListN.{length, getD, length-append, drop-of-length-le}
 use Rattle.octets.specs.Scan.{from}
 use Rattle.octets.proofs.Scans.{length-from}
 use Rattle.output.specs.Places.{Put}

@@ -1,5 +1,4 @@
 -- Head, segments and image, one behind the other.
-use mathlib.Core.Path.{_≡_}
 use mathlib.Core.List.{append-assoc}
 use native.Mathlib.Omega.{arith}
 use Rattle.output.proofs.Placing.{put-then, put-as}

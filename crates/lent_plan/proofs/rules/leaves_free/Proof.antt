@@ -1,5 +1,4 @@
 -- Without a checksum there is no field.
-use mathlib.Core.Path.{_≡_, refl, ap, _∙_}
 use borrow.Author.Needs.{needs}
 use Rattle.lent_plan.proofs.rules.leaves_free.Statement.{statement}
 use Rattle.lent_plan.proofs.rules.leaves_free.Tie as tie

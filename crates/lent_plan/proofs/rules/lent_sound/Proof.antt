@@ -20,11 +20,11 @@ element-copy-out-n c = search needs
 
 returns : tie.Need-returns Inv-loop μ-loop
 unfolding lentPlan
-returns c = lent-full (lentPlan (c .before .before .args .w .now)) (c .if1 .taken)
+returns c = lent-full (lentPlan (c .before .before .args .w .now)) (omega (arith, c .if1 .taken))
 
 loop-holds : tie.Need-loop-holds Inv-loop μ-loop
 unfolding lentPlan
-loop-holds c = sound-start (lentPlan (c .before .before .args .w .now)) (c .if1 .left)
+loop-holds c = sound-start (lentPlan (c .before .before .args .w .now)) (omega (arith, c .if1 .left))
 
 head-at-requires : tie.Need-head-at-requires Inv-loop μ-loop
 head-at-requires c κs = search needs

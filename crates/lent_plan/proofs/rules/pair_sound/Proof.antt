@@ -1,5 +1,4 @@
 -- The two cases of `pairSound`.
-use mathlib.Core.Path.{_≡_, refl, ap, _∙_}
 use borrow.Author.Needs.{needs}
 use Rattle.lent_plan.proofs.rules.pair_sound.Statement.{statement}
 use Rattle.lent_plan.proofs.rules.pair_sound.Tie as tie

@@ -1,6 +1,5 @@
 -- The invariant is `Fitting`: what the segments not yet seen say is the answer.
 use Prim.Native.Nat.{_-_}
-use mathlib.Core.Path.{refl}
 use native.Mathlib.Omega.{arith}
 use Rattle.plan.specs.Shapes.{segmentAt, templateAt}
 use Rattle.plan.proofs.Calls.{called-true, called-false}
