@@ -7,15 +7,14 @@ use crate::outgoing::with_room;
 use answer::Answer;
 use answer::Verdict;
 use grant::Grants;
-use plan::Plan;
+use lent_plan::PLAN_WORDS;
 ghost use Prim.Native.Nat.{_+_, _≤_};
 ghost use lib.ListN.{length};
 ghost use Rattle.van_box.specs.Sizes.{answerRoom};
 
-// The state and the output after a record.
+// The grants and the output after a record.
 pub struct Stepped {
     pub grants: Grants,
-    pub plan: Plan,
     pub output: Output,
 }
 
@@ -26,22 +25,17 @@ pub struct Granted {
     pub next: usize,
 }
 
-pub struct Planned {
-    pub plan: Plan,
-    pub output: Output,
-}
-
 // Whether a record of this kind leaves the state as it is.
 pub(crate) fn is_still(kind: u8) -> bool {
     kind == b'T' || kind == b'D' || kind == b'Q'
 }
 
 // A packet, a datagram or a list to request.
-pub(crate) fn still_record(
+pub(crate) fn still_record<'a>(
     grants: Grants,
-    plan: Plan,
+    plan: &'a [u64; PLAN_WORDS],
     kind: u8,
-    body: &[u8],
+    body: &'a [u8],
     out: &mut [u8],
     output: Output,
 ) -> Output
@@ -64,7 +58,7 @@ pub(crate) fn still_record(
 // A record that may change the state, or one of no kind.
 pub(crate) fn state_record(
     grants: Grants,
-    plan: Plan,
+    plan: &mut [u64; PLAN_WORDS],
     kind: u8,
     body: &[u8],
     out: &mut [u8],
@@ -74,13 +68,10 @@ pub(crate) fn state_record(
     ensures { λ r. ⌜ r .output .used ≤ length (now (out .exit)) ⌝ }
 {
     if kind == b'P' {
-        let after = plan_record(plan, body, out, output);
-        let plan_after = after.plan;
-        let output_after = after.output;
+        let planned = plan_record(plan, body, out, output);
         return Stepped {
             grants,
-            plan: plan_after,
-            output: output_after,
+            output: planned,
         };
     }
     if kind == b'A' || kind == b'R' || kind == b'C' {
@@ -89,41 +80,25 @@ pub(crate) fn state_record(
         let output_after = after.output;
         return Stepped {
             grants: grants_after,
-            plan,
             output: output_after,
         };
     }
     let unknown = put_unknown(output, out);
     Stepped {
         grants,
-        plan,
         output: unknown,
     }
 }
 
 // A plan file: a good one replaces the plan.
-fn plan_record(plan: Plan, body: &[u8], out: &mut [u8], output: Output) -> Planned
+fn plan_record(plan: &mut [u64; PLAN_WORDS], body: &[u8], out: &mut [u8], output: Output) -> Output
     requires { ⌜ output .used + answerRoom ≤ length (now out) ⌝ }
-    ensures { λ r. ⌜ r .output .used ≤ length (now (out .exit)) ⌝ }
+    ensures { λ r. ⌜ r .used ≤ length (now (out .exit)) ⌝ }
 {
-    let read = plan::read_plan(body);
-    let verdict = read.verdict;
+    let verdict = lent_plan::read_plan(body, plan);
     match verdict {
-        Verdict::Go => {
-            let plan_after = read.plan;
-            let done = put_answer(output, out, b'P', Answer::Done(0));
-            Planned {
-                plan: plan_after,
-                output: done,
-            }
-        }
-        Verdict::Stop(why) => {
-            let refused = put_answer(output, out, b'P', Answer::Refused(why));
-            Planned {
-                plan,
-                output: refused,
-            }
-        }
+        Verdict::Go => put_answer(output, out, b'P', Answer::Done(0)),
+        Verdict::Stop(why) => put_answer(output, out, b'P', Answer::Refused(why)),
     }
 }
 

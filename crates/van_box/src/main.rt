@@ -1,5 +1,6 @@
 // The box as a filter: records on standard input, their answers on standard output (README, "The box as a filter").
-// The program only moves bytes: what a record answers comes from `plan`, `records` and `tunnel`. The grants and the plan live across records.
+// The program only moves bytes: what a record answers comes from `lent_plan`, `records` and `tunnel`. The grants live across records by
+// value, the plan in words that are lent.
 // Answers are gathered and written before each read, so that none waits for more input. It ends where the input does, or where the output
 // cannot be written.
 mod answers;
@@ -13,11 +14,11 @@ use incoming::RECORD_HEAD;
 use incoming::fill;
 use incoming::keep;
 use incoming::record_size;
+use lent_plan::PLAN_WORDS;
 use outgoing::Output;
 use outgoing::flush;
 use outgoing::put_unknown;
 use outgoing::with_room;
-use plan::Plan;
 ghost use Prim.Native.Nat.{_≤_};
 ghost use lib.ListN.{length};
 ghost use Rattle.van_box.specs.Sizes.{inputRoom, answerRoom};
@@ -27,18 +28,16 @@ const INPUT: usize = 131072;
 
 const OUTPUT: usize = 65536;
 
-// The box between two reads: its state, how many bytes of an unfinished record the input holds, and whether there is more to do.
+// The box between two reads: its grants, how many bytes of an unfinished record the input holds, and whether there is more to do.
 pub struct Between {
     pub grants: Grants,
-    pub plan: Plan,
     pub held: usize,
     pub open: bool,
 }
 
-// The box after the records of some bytes: its state, its output, and the place behind the last whole record.
+// The box after the records of some bytes: its grants, its output, and the place behind the last whole record.
 pub struct Answered {
     pub grants: Grants,
-    pub plan: Plan,
     pub output: Output,
     pub at: usize,
 }
@@ -46,6 +45,8 @@ pub struct Answered {
 fn main() {
     let mut input = [0u8; INPUT];
     let mut out = [0u8; OUTPUT];
+    // All 0: no templates.
+    let mut plan = [0u64; PLAN_WORDS];
     let mut now = start();
     // No run uses the turns up.
     let mut turns = u64::MAX;
@@ -53,7 +54,7 @@ fn main() {
         if !now.open {
             break;
         }
-        now = turn(now, &mut input, &mut out);
+        now = turn(now, &mut plan, &mut input, &mut out);
         turns -= 1;
     }
 }
@@ -62,37 +63,43 @@ fn start() -> Between
     ensures { λ r. ⌜ r .held ≤ 0 ⌝ }
 {
     let grants = Grants::empty();
-    let plan = plan::no_templates();
     Between {
         grants,
-        plan,
         held: 0,
         open: true,
     }
 }
 
 // One read and its answers.
-fn turn(before: Between, input: &mut [u8; INPUT], out: &mut [u8; OUTPUT]) -> Between
+fn turn(
+    before: Between,
+    plan: &mut [u64; PLAN_WORDS],
+    input: &mut [u8; INPUT],
+    out: &mut [u8; OUTPUT],
+) -> Between
     requires { ⌜ before .held ≤ inputRoom ⌝ }
     ensures { λ r. ⌜ r .held ≤ inputRoom ⌝ }
 {
-    answer_read(before, input, out)
+    answer_read(before, plan, input, out)
 }
 
-fn answer_read(before: Between, input: &mut [u8], out: &mut [u8]) -> Between
+fn answer_read(
+    before: Between,
+    plan: &mut [u64; PLAN_WORDS],
+    input: &mut [u8],
+    out: &mut [u8],
+) -> Between
     requires { ⌜ before .held ≤ length (now input) ⌝ }
     requires { ⌜ answerRoom ≤ length (now out) ⌝ }
     ensures { λ r. ⌜ r .held ≤ length (now (input .exit)) ⌝ }
 {
     let held = before.held;
     let grants = before.grants;
-    let plan = before.plan;
     let end = fill(input, held);
     if end <= held {
         end_of_input(held, out);
         return Between {
             grants,
-            plan,
             held: 0,
             open: false,
         };
@@ -102,10 +109,8 @@ fn answer_read(before: Between, input: &mut [u8], out: &mut [u8]) -> Between
     let at = after.at;
     let left = keep(input, at, end);
     let grants_after = after.grants;
-    let plan_after = after.plan;
     Between {
         grants: grants_after,
-        plan: plan_after,
         held: left,
         open: output.open,
     }
@@ -126,13 +131,17 @@ fn end_of_input(held: usize, out: &mut [u8])
 }
 
 // Answers every whole record of some bytes.
-fn answer_records(grants: Grants, plan: Plan, bytes: &[u8], out: &mut [u8]) -> Answered
+fn answer_records(
+    grants: Grants,
+    plan: &mut [u64; PLAN_WORDS],
+    bytes: &[u8],
+    out: &mut [u8],
+) -> Answered
     requires { ⌜ answerRoom ≤ length (now out) ⌝ }
     ensures { λ r. ⌜ r .at ≤ length (now (bytes .entry)) ⌝ }
     ensures { λ r. ⌜ r .output .used ≤ length (now (out .exit)) ⌝ }
 {
     let mut grants_now = grants;
-    let mut plan_now = plan;
     let mut output = Output {
         used: 0,
         open: true,
@@ -148,18 +157,16 @@ fn answer_records(grants: Grants, plan: Plan, bytes: &[u8], out: &mut [u8]) -> A
         let end = at + n;
         let room = with_room(output, out);
         if answers::is_still(kind) {
-            output = still_record(grants_now, plan_now, kind, &bytes[start..end], out, room);
+            output = still_record(grants_now, plan, kind, &bytes[start..end], out, room);
         } else {
-            let after = state_record(grants_now, plan_now, kind, &bytes[start..end], out, room);
+            let after = state_record(grants_now, plan, kind, &bytes[start..end], out, room);
             grants_now = after.grants;
-            plan_now = after.plan;
             output = after.output;
         }
         at = end;
     }
     Answered {
         grants: grants_now,
-        plan: plan_now,
         output,
         at,
     }

@@ -25,7 +25,7 @@ slice-reshare-prefix-answer-records : tie.Need-slice-reshare-prefix-answer-recor
 slice-reshare-prefix-answer-records c = search needs
 
 slice-aggregate-answer-records : tie.Need-slice-aggregate-answer-records
-slice-aggregate-answer-records c = sym (length-take-le _ _ (c .before .before .before .before .fill .ensures))
+slice-aggregate-answer-records c = sym (length-take-le _ _ (c .before .before .before .before .before .fill .ensures))
 
 answer-records-requires : tie.Need-answer-records-requires
 answer-records-requires c κs = search needs
@@ -35,7 +35,7 @@ flush-requires c κs = search needs
 
 keep-requires : tie.Need-keep-requires
 keep-requires c κs =
-    let f = c .before .before .before .before .before .before .before .before .before .before .before .before .before .fill in
+    let f = c .before .before .before .before .before .before .before .before .before .before .before .before .before .before .fill in
     (omega (arith, length-take-le (f .result) (f .last .0) (f .ensures), c .before .before .before .before .before .before .before .answer-records .ensures .0), f .ensures)
 
 same-length-3 : tie.Need-same-length-3

@@ -9,11 +9,11 @@ use Rattle.van_box.proofs.answer_records.Statement.{statement}
 use Rattle.van_box.proofs.answer_records.Tie as tie
 
 abbrev Inv-loop : tie.InvT-loop
-Inv-loop bytes out₀ grants-now₀ plan-now₀ output₀ at₀ out grants-now plan-now output at =
+Inv-loop plan₀ bytes out₀ grants-now₀ output₀ at₀ plan out grants-now output at =
     (at ≤ length bytes) × (output .used ≤ length out) × (answerRoom ≤ length out) × (length out ≡ length out₀)
 
 abbrev μ-loop : tie.MeasureT-loop
-μ-loop bytes out₀ grants-now₀ plan-now₀ output₀ at₀ out grants-now plan-now output at = length bytes - at
+μ-loop plan₀ bytes out₀ grants-now₀ output₀ at₀ plan out grants-now output at = length bytes - at
 
 loop-holds : tie.Need-loop-holds Inv-loop μ-loop
 loop-holds c = search needs
@@ -71,7 +71,7 @@ loop-less-2 c = search needs
 
 loop-again-2 : tie.Need-loop-again-2 Inv-loop μ-loop
 loop-again-2 c =
-    let k = c .before .before .before .before .before .state-record in
+    let k = c .before .before .before .before .state-record in
     let w = c .before .before .before .before .before .before .before .before .before .before .before .before .with-room in
     let n = c .before .before .before .before .before .before .before .before .before .before .before .before .before .before .before .before in
     let i = n .before .before .loop .inv in (

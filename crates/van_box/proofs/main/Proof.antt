@@ -6,10 +6,10 @@ use Rattle.van_box.proofs.main.Statement.{statement}
 use Rattle.van_box.proofs.main.Tie as tie
 
 abbrev Inv-loop : tie.InvT-loop
-Inv-loop input₀ out₀ now₀ turns₀ input out now turns = now .held ≤ inputRoom
+Inv-loop input₀ out₀ plan₀ now₀ turns₀ input out plan now turns = now .held ≤ inputRoom
 
 abbrev μ-loop : tie.MeasureT-loop
-μ-loop input₀ out₀ now₀ turns₀ input out now turns = turns
+μ-loop input₀ out₀ plan₀ now₀ turns₀ input out plan now turns = turns
 
 start-requires : tie.Need-start-requires Inv-loop μ-loop
 start-requires c κs = search needs
