@@ -1,8 +1,8 @@
 // Packets from a tablet and datagrams from the link, with grants and plans that came as capsules and files.
 use answer::Answer;
 use grant::Grants;
+use lent_plan::PLAN_WORDS;
 use lists::AddressList;
-use plan::Plan;
 
 // 192.0.2.3 may send UDP to 198.51.100.2.
 fn grants() -> Grants {
@@ -22,171 +22,189 @@ fn mirrored(g: Grants) -> Grants {
     some.with_given_routes(routes)
 }
 
-fn read_plan(bytes: &[u8]) -> Plan {
-    let r = plan::read_plan(bytes);
-    r.plan
+pub(crate) fn packets() {
+    let mut plan = [0u64; PLAN_WORDS];
+    lent_plan::read_plan(
+        b"\x56\x41\x4e\x00\x01\x01\x02\x01\x0c\x0c\xc0\x00\x02\x03\xc6\x33\x64\x02\x03\xe8\x07\xd0\x01\x1a\x14",
+        &mut plan,
+    );
+    sending(&plan);
+    receiving(&plan);
 }
 
-pub(crate) fn packets() {
-    let g = grants();
-    let other = mirrored(g);
-    let plan = read_plan(
-        b"\x56\x41\x4e\x00\x01\x01\x02\x01\x0c\x0c\xc0\x00\x02\x03\xc6\x33\x64\x02\x03\xe8\x07\xd0\x01\x1a\x14",
-    );
-    let ports = read_plan(
-        b"\x56\x41\x4e\x00\x01\x01\x03\x01\x0c\x08\xc0\x00\x02\x03\xc6\x33\x64\x02\x01\x1a\x14",
-    );
+fn sending(plan: &[u64; PLAN_WORDS]) {
     crate::text(b"sending\n");
+    sent_checksums(plan);
+    sent_ports();
+    sent_hops(plan);
+    sent_judged(plan);
+    sent_limits(plan);
+}
+
+fn sent_checksums(plan: &[u64; PLAN_WORDS]) {
     sent(
         b"example",
-        g,
         plan,
         b"\x45\x00\x00\x1c\x00\x00\x00\x00\x40\x11\x8e\x98\xc0\x00\x02\x03\xc6\x33\x64\x02\x03\xe8\x07\xd0\x00\x08\x07\xed",
     );
     sent(
         b"damaged checksum",
-        g,
         plan,
         b"\x45\x00\x00\x1c\x00\x00\x00\x00\x40\x11\x8e\x98\xc0\x00\x02\x03\xc6\x33\x64\x02\x03\xe8\x07\xd0\x00\x08\x07\xee",
     );
     sent(
         b"no checksum",
-        g,
         plan,
         b"\x45\x00\x00\x1c\x00\x00\x00\x00\x40\x11\x8e\x98\xc0\x00\x02\x03\xc6\x33\x64\x02\x03\xe8\x07\xd0\x00\x08\x00\x00",
     );
-    sent(
-        b"port 4029",
-        g,
-        ports,
-        b"\x45\x00\x00\x1c\x00\x00\x00\x00\x40\x11\x8e\x98\xc0\x00\x02\x03\xc6\x33\x64\x02\x03\xe8\x0f\xbd\x00\x08\xff\xff",
+}
+
+// A template that holds no ports.
+fn sent_ports() {
+    let mut ports = [0u64; PLAN_WORDS];
+    lent_plan::read_plan(
+        b"\x56\x41\x4e\x00\x01\x01\x03\x01\x0c\x08\xc0\x00\x02\x03\xc6\x33\x64\x02\x01\x1a\x14",
+        &mut ports,
     );
     sent(
+        b"port 4029",
+        &ports,
+        b"\x45\x00\x00\x1c\x00\x00\x00\x00\x40\x11\x8e\x98\xc0\x00\x02\x03\xc6\x33\x64\x02\x03\xe8\x0f\xbd\x00\x08\xff\xff",
+    );
+}
+
+fn sent_hops(plan: &[u64; PLAN_WORDS]) {
+    sent(
         b"hop count 1",
-        g,
         plan,
         b"\x45\x00\x00\x1c\x00\x00\x00\x00\x01\x11\xcd\x98\xc0\x00\x02\x03\xc6\x33\x64\x02\x03\xe8\x07\xd0\x00\x08\x07\xed",
     );
     sent(
         b"hop count 2",
-        g,
         plan,
         b"\x45\x00\x00\x1c\x00\x00\x00\x00\x02\x11\xcc\x98\xc0\x00\x02\x03\xc6\x33\x64\x02\x03\xe8\x07\xd0\x00\x08\x07\xed",
     );
     sent(
         b"hop count 0",
-        g,
         plan,
         b"\x45\x00\x00\x1c\x00\x00\x00\x00\x00\x11\xce\x98\xc0\x00\x02\x03\xc6\x33\x64\x02\x03\xe8\x07\xd0\x00\x08\x07\xed",
     );
-    sent(b"empty", g, plan, b"");
+}
+
+// Packets of bad form, and of other flows.
+fn sent_judged(plan: &[u64; PLAN_WORDS]) {
+    sent(b"empty", plan, b"");
     sent(
         b"header checksum wrong",
-        g,
         plan,
         b"\x45\x00\x00\x1c\x00\x00\x00\x00\x40\x11\x00\x00\xc0\x00\x02\x03\xc6\x33\x64\x02\x03\xe8\x07\xd0\x00\x08\x07\xed",
     );
     sent(
         b"other destination",
-        g,
         plan,
         b"\x45\x00\x00\x1c\x00\x00\x00\x00\x40\x11\x8e\x97\xc0\x00\x02\x03\xc6\x33\x64\x03\x03\xe8\x07\xd0\x00\x08\x07\xed",
     );
     sent(
         b"TCP",
-        g,
         plan,
         b"\x45\x00\x00\x1c\x00\x00\x00\x00\x40\x06\x8e\xa3\xc0\x00\x02\x03\xc6\x33\x64\x02\x03\xe8\x07\xd0\x00\x08\x07\xed",
     );
     sent(
         b"ICMP",
-        g,
         plan,
         b"\x45\x00\x00\x1c\x00\x00\x00\x00\x40\x01\x8e\xa8\xc0\x00\x02\x03\xc6\x33\x64\x02\x03\xe8\x07\xd0\x00\x08\x07\xed",
     );
+}
+
+// The packet's limit, a broken state and a small output.
+fn sent_limits(plan: &[u64; PLAN_WORDS]) {
     let longest = longest_packet();
-    counted(b"1500 bytes", g, plan, &longest);
+    counted(b"1500 bytes", plan, &longest);
     let long = [0u8; 1501];
-    sent(b"1501 bytes", g, plan, &long);
-    sent(
+    sent(b"1501 bytes", plan, &long);
+    sent_broken(
         b"broken list",
-        broken(g),
         plan,
         b"\x45\x00\x00\x1c\x00\x00\x00\x00\x40\x11\x8e\x98\xc0\x00\x02\x03\xc6\x33\x64\x02\x03\xe8\x07\xd0\x00\x08\x07\xed",
     );
     small(
         b"small output",
-        g,
         plan,
         b"\x45\x00\x00\x1c\x00\x00\x00\x00\x40\x11\x8e\x98\xc0\x00\x02\x03\xc6\x33\x64\x02\x03\xe8\x07\xd0\x00\x08\x07\xed",
     );
+}
+
+fn receiving(plan: &[u64; PLAN_WORDS]) {
     crate::text(b"receiving\n");
+    received_forms(plan);
+    received_cut(plan);
+    received_judged(plan);
+}
+
+fn received_forms(plan: &[u64; PLAN_WORDS]) {
     received(
         b"short form",
-        other,
         plan,
         b"\x02\x45\x00\x00\x1c\x00\x00\x00\x00\x3f\x11\x8f\x98\x00\x08\xec\x52",
     );
     received(
         b"full form",
-        other,
         plan,
         b"\x00\x45\x00\x00\x1c\x00\x00\x00\x00\x3f\x11\x8f\x98\xc0\x00\x02\x03\xc6\x33\x64\x02\x03\xe8\x07\xd0\x00\x08\x07\xed",
     );
     received(
         b"longer Context ID",
-        other,
         plan,
         b"\x40\x02\x45\x00\x00\x1c\x00\x00\x00\x00\x3f\x11\x8f\x98\x00\x08\xec\x52",
     );
-    received(b"no bytes", other, plan, b"");
-    received(b"cut Context ID", other, plan, b"\x40");
+}
+
+// Context IDs and bodies that are cut or unknown.
+fn received_cut(plan: &[u64; PLAN_WORDS]) {
+    received(b"no bytes", plan, b"");
+    received(b"cut Context ID", plan, b"\x40");
     received(
         b"unknown Context ID",
-        other,
         plan,
         b"\x05\x45\x00\x00\x1c\x00\x00\x00\x00\x3f\x11\x8f\x98\x00\x08\xec\x52",
     );
     received(
         b"too few bytes",
-        other,
         plan,
         b"\x02\x45\x00\x00\x1c\x00\x00\x00\x00\x3f",
     );
     received(
         b"field not reached",
-        other,
         plan,
         b"\x02\x45\x00\x00\x1c\x00\x00\x00\x00\x3f\x11\x8f\x98\x00",
     );
+}
+
+// Packets that are not taken in, other lists and a small output.
+fn received_judged(plan: &[u64; PLAN_WORDS]) {
     received(
         b"bad form",
-        other,
         plan,
         b"\x00\x45\x00\x00\x1c\x00\x00\x00\x00\x40\x11\x8e\x98\xc0\x00\x02\x03\xc6\x33\x64\x02\x03\xe8\x07\xd0\x00\x08\x07",
     );
     received(
         b"not granted",
-        other,
         plan,
         b"\x00\x45\x00\x00\x1c\x00\x00\x00\x00\x40\x11\x8e\x97\xc0\x00\x02\x03\xc6\x33\x64\x03\x03\xe8\x07\xd0\x00\x08\x07\xed",
     );
-    received(b"1501 bytes in full", other, plan, &long_datagram());
-    received(
+    received(b"1501 bytes in full", plan, &long_datagram());
+    received_broken(
         b"broken list",
-        broken(other),
         plan,
         b"\x02\x45\x00\x00\x1c\x00\x00\x00\x00\x3f\x11\x8f\x98\x00\x08\xec\x52",
     );
-    received(
+    received_here(
         b"this end's own lists",
-        g,
         plan,
         b"\x02\x45\x00\x00\x1c\x00\x00\x00\x00\x3f\x11\x8f\x98\x00\x08\xec\x52",
     );
     received_small(
         b"small output",
-        other,
         plan,
         b"\x02\x45\x00\x00\x1c\x00\x00\x00\x00\x3f\x11\x8f\x98\x00\x08\xec\x52",
     );
@@ -225,16 +243,25 @@ fn long_datagram() -> [u8; 1502] {
     [0u8; 1502]
 }
 
-fn sent(name: &[u8], g: Grants, plan: Plan, packet: &[u8]) {
+// A packet sent with the grants above.
+fn sent<'a>(name: &'a [u8], plan: &'a [u64; PLAN_WORDS], packet: &'a [u8]) {
+    sent_by(name, grants(), plan, packet);
+}
+
+fn sent_broken<'a>(name: &'a [u8], plan: &'a [u64; PLAN_WORDS], packet: &'a [u8]) {
+    sent_by(name, broken(grants()), plan, packet);
+}
+
+fn sent_by<'a>(name: &'a [u8], g: Grants, plan: &'a [u64; PLAN_WORDS], packet: &'a [u8]) {
     let mut out = [0u8; 1508];
     let a = tunnel::send(g, plan, packet, &mut out);
     shown(name, a, &out);
 }
 
 // How many bytes are written.
-fn counted(name: &[u8], g: Grants, plan: Plan, packet: &[u8]) {
+fn counted<'a>(name: &'a [u8], plan: &'a [u64; PLAN_WORDS], packet: &'a [u8]) {
     let mut out = [0u8; 1508];
-    let a = tunnel::send(g, plan, packet, &mut out);
+    let a = tunnel::send(grants(), plan, packet, &mut out);
     crate::text(name);
     crate::text(b": number ");
     crate::decimal(a.number() as u64);
@@ -244,21 +271,34 @@ fn counted(name: &[u8], g: Grants, plan: Plan, packet: &[u8]) {
 }
 
 // An output that is one byte too small.
-fn small(name: &[u8], g: Grants, plan: Plan, packet: &[u8]) {
+fn small<'a>(name: &'a [u8], plan: &'a [u64; PLAN_WORDS], packet: &'a [u8]) {
     let mut out = [0u8; 1507];
-    let a = tunnel::send(g, plan, packet, &mut out);
+    let a = tunnel::send(grants(), plan, packet, &mut out);
     shown(name, a, &out);
 }
 
-fn received(name: &[u8], g: Grants, plan: Plan, datagram: &[u8]) {
+// A datagram received at the other end.
+fn received<'a>(name: &'a [u8], plan: &'a [u64; PLAN_WORDS], datagram: &'a [u8]) {
+    received_by(name, mirrored(grants()), plan, datagram);
+}
+
+fn received_broken<'a>(name: &'a [u8], plan: &'a [u64; PLAN_WORDS], datagram: &'a [u8]) {
+    received_by(name, broken(mirrored(grants())), plan, datagram);
+}
+
+fn received_here<'a>(name: &'a [u8], plan: &'a [u64; PLAN_WORDS], datagram: &'a [u8]) {
+    received_by(name, grants(), plan, datagram);
+}
+
+fn received_by<'a>(name: &'a [u8], g: Grants, plan: &'a [u64; PLAN_WORDS], datagram: &'a [u8]) {
     let mut out = [0u8; 1500];
     let a = tunnel::receive(g, plan, datagram, &mut out);
     shown(name, a, &out);
 }
 
-fn received_small(name: &[u8], g: Grants, plan: Plan, datagram: &[u8]) {
+fn received_small<'a>(name: &'a [u8], plan: &'a [u64; PLAN_WORDS], datagram: &'a [u8]) {
     let mut out = [0u8; 1499];
-    let a = tunnel::receive(g, plan, datagram, &mut out);
+    let a = tunnel::receive(mirrored(grants()), plan, datagram, &mut out);
     shown(name, a, &out);
 }
 
@@ -266,14 +306,6 @@ fn received_small(name: &[u8], g: Grants, plan: Plan, datagram: &[u8]) {
 fn shown(name: &[u8], a: Answer, out: &[u8]) {
     crate::text(name);
     crate::text(b": ");
-    match a {
-        Answer::Done(n) => {
-            crate::hex_front(out, n);
-        }
-        Answer::Refused(why) => {
-            crate::text(b"refused ");
-            crate::decimal(why.number() as u64);
-        }
-    }
+    crate::front_or_refused(a, out);
     crate::text(b"\n");
 }

@@ -1,9 +1,17 @@
 // Plan files: read, and those that are good written again.
-use answer::Answer;
 use answer::Verdict;
+use plan::Plan;
 
 pub(crate) fn plans() {
     crate::text(b"plans\n");
+    fronts();
+    contexts();
+    segments();
+    checksums();
+}
+
+// The mark, the version and the end of a file.
+fn fronts() {
     plan_file(
         b"the drivers' plan",
         b"\x56\x41\x4e\x00\x01\x01\x02\x01\x0c\x0c\xc0\x00\x02\x03\xc6\x33\x64\x02\x03\xe8\x07\xd0\x01\x1a\x14",
@@ -21,6 +29,10 @@ pub(crate) fn plans() {
         b"a byte left over",
         b"\x56\x41\x4e\x00\x01\x01\x02\x01\x0c\x0c\xc0\x00\x02\x03\xc6\x33\x64\x02\x03\xe8\x07\xd0\x01\x1a\x14\x00",
     );
+}
+
+// How many templates there are, and their Context IDs.
+fn contexts() {
     plan_file(b"nine templates", b"\x56\x41\x4e\x00\x01\x09");
     plan_file(b"Context ID 0", b"\x56\x41\x4e\x00\x01\x01\x00");
     plan_file(
@@ -32,6 +44,9 @@ pub(crate) fn plans() {
         b"a longer number that breaks its rule",
         b"\x56\x41\x4e\x00\x01\x01\x02\x01\x40\x00",
     );
+}
+
+fn segments() {
     plan_file(b"nine segments", b"\x56\x41\x4e\x00\x01\x01\x02\x09");
     plan_file(
         b"a segment of no bytes",
@@ -53,6 +68,9 @@ pub(crate) fn plans() {
         b"flag 2",
         b"\x56\x41\x4e\x00\x01\x01\x02\x01\x0c\x01\x01\x02",
     );
+}
+
+fn checksums() {
     plan_file(
         b"no segments and flag 0",
         b"\x56\x41\x4e\x00\x01\x01\x02\x00\x00",
@@ -85,23 +103,18 @@ fn plan_file(name: &[u8], bytes: &[u8]) {
         Verdict::Go => {
             let found = r.plan;
             crate::decimal(found.count as u64);
-            crate::text(b" written ");
-            let mut out = [0u8; 1400];
-            let a = plan_write::write_plan(found, &mut out);
-            match a {
-                Answer::Done(n) => {
-                    crate::hex_front(&out, n);
-                }
-                Answer::Refused(why) => {
-                    crate::text(b"refused ");
-                    crate::decimal(why.number() as u64);
-                }
-            }
+            written(found);
         }
         Verdict::Stop(why) => {
-            crate::text(b"refused ");
-            crate::decimal(why.number() as u64);
+            crate::refused(why);
         }
     }
     crate::text(b"\n");
+}
+
+fn written(found: Plan) {
+    let mut out = [0u8; 1400];
+    let a = plan_write::write_plan(found, &mut out);
+    crate::text(b" written ");
+    crate::front_or_refused(a, &out);
 }
