@@ -1,8 +1,10 @@
 -- From the answers of the functions below to plain ones. Assumes nothing.
 use Prim.Native.Nat.{ℕ}
 use mathlib.Core.Path.{_≡_, refl, ap, sym, _∙_}
+use mathlib.Core.Bool.{true, false}
 use mathlib.Core.List.{List}
 use lib.ListN.{length}
+use Rattle.answer.specs.declared.Refusal.the-variants.{BrokenState}
 use Rattle.answer.specs.declared.Answer.{Answer}
 use Rattle.answer.specs.declared.Verdict.{Verdict}
 use Rattle.answer.specs.declared.Verdict.the-variants.{Go, Stop}
@@ -14,13 +16,14 @@ use Rattle.lists.specs.declared.AddressList.{AddressList}
 use Rattle.lists.specs.declared.RouteList.{RouteList}
 use Rattle.lists.specs.Words.{entriesOf, rangesOf}
 use Rattle.capsule.specs.declared.Outcome.{Outcome}
+use Rattle.capsule.specs.declared.Outcome.the-variants.{Datagram, Assigned, Requested, Advertised, Skipped, Refused}
+use Rattle.capsule.specs.declared.CapsuleRead.{CapsuleRead}
 use Rattle.capsule.specs.Capsules.{capsuleBytes, assign, advertise}
-use Rattle.capsule.specs.Results.{outcomeNumber, nextPlace}
+use Rattle.capsule.specs.Results.{outcomeNumber, nextPlace, readAt}
 use Rattle.grant.specs.declared.Grants.{Grants}
-use Rattle.grant.specs.State.{withGivenAddresses, withGivenRoutes}
-use Rattle.exchange.specs.declared.GrantsRead.{GrantsRead}
+use Rattle.grant.specs.State.{soundGrants, withGivenAddresses, withGivenRoutes}
 use Rattle.exchange.specs.declared.GrantsWritten.{GrantsWritten}
-use Rattle.exchange.specs.Exchange.{readGrants, assignVerdict, advertiseVerdict, stateOf, AssignWritten, AdvertiseWritten}
+use Rattle.exchange.specs.Exchange.{received, readGrants, assignVerdict, advertiseVerdict, stateOf, AssignWritten, AdvertiseWritten}
 use Rattle.plan.specs.declared.Plan.{Plan}
 use Rattle.plan.specs.File.{planBytes}
 use Rattle.plan.specs.Rules.{writeVerdict}
@@ -29,7 +32,7 @@ use Rattle.lent_plan.specs.Words.{loaded}
 use Rattle.tunnel_c.specs.declared.PlainAnswer.{PlainAnswer}
 use Rattle.tunnel_c.specs.declared.PlainNumber.{PlainNumber}
 use Rattle.tunnel_c.specs.declared.capsules.PlainCapsule.{PlainCapsule}
-use Rattle.tunnel_c.specs.Plain.{plainAnswer, PlainWrites, plainNumber, outcomeKind, valueStart, valueLength, plainCapsule, requestedWords}
+use Rattle.tunnel_c.specs.Plain.{plainAnswer, PlainWrites, plainNumber, outcomeKind, valueStart, valueLength, plainCapsule, assignedWords, advertisedWords, requestedWords}
 
 abbrev answered : ℕ → ℕ → PlainAnswer
 answered n l = record { number = n; length = l }
@@ -62,27 +65,64 @@ capsule-plain {o} {x} at {n} {next} e f h =
     ap (λ (k : ℕ). told x k next) (e ∙ ap outcomeNumber h) ∙ ap (told x (outcomeNumber x)) (f ∙ ap (nextPlace at) h)
     ∙ ap (plainCapsule at) (sym h)
 
--- what a reading leaves, where the lent lists are the grants g
-pub capsule-read : (s : List ℕ) (at : ℕ) (before : List ℕ) {g lent : Grants} {r : GrantsRead} {p : PlainCapsule} {q : List ℕ}
-    → g ≡ lent
-    → r ≡ readGrants g s at
-    → p ≡ plainCapsule at (r .capsule .outcome)
-    → q ≡ requestedWords (r .capsule .outcome) (r .capsule .addresses .words) before
-    → (p ≡ plainCapsule at (readGrants lent s at .capsule .outcome))
-    × ((r .grants .«received_addresses» .words ≡ readGrants lent s at .grants .«received_addresses» .words)
-    × ((r .grants .«received_routes» .words ≡ readGrants lent s at .grants .«received_routes» .words)
-    × (q ≡ requestedWords (readGrants lent s at .capsule .outcome) (readGrants lent s at .capsule .addresses .words) before)))
-capsule-read s at before e f h k =
-    let whole = f ∙ ap (λ (x : Grants). readGrants x s at) e in (
-      h ∙ ap (λ (x : GrantsRead). plainCapsule at (x .capsule .outcome)) whole,
-      (
-        ap (λ (x : GrantsRead). x .grants .«received_addresses» .words) whole,
-        (
-          ap (λ (x : GrantsRead). x .grants .«received_routes» .words) whole,
-          k ∙ ap (λ (x : GrantsRead). requestedWords (x .capsule .outcome) (x .capsule .addresses .words) before) whole,
-        ),
-      ),
-    )
+-- an outcome that is known, and what it keeps
+pub kept : (entries ranges addresses routes requested : List ℕ) {o x : Outcome}
+    → o ≡ x
+    → (assignedWords x entries addresses ≡ assignedWords o entries addresses)
+    × ((advertisedWords x ranges routes ≡ advertisedWords o ranges routes) × (requestedWords x entries requested ≡ requestedWords o entries requested))
+kept entries ranges addresses routes requested e = (
+  ap (λ (y : Outcome). assignedWords y entries addresses) (sym e),
+  (ap (λ (y : Outcome). advertisedWords y ranges routes) (sym e), ap (λ (y : Outcome). requestedWords y entries requested) (sym e)),
+)
+
+-- what a reading does to the received lists
+received-addresses : (g : Grants) (c : CapsuleRead) (o : Outcome)
+    → assignedWords o (c .addresses .words) (g .«received_addresses» .words) ≡ received g c o .«received_addresses» .words
+received-addresses g c (Datagram start size next) = refl
+received-addresses g c (Assigned next) = refl
+received-addresses g c (Requested next) = refl
+received-addresses g c (Advertised next) = refl
+received-addresses g c (Skipped next) = refl
+received-addresses g c (Refused r) = refl
+
+received-routes : (g : Grants) (c : CapsuleRead) (o : Outcome)
+    → advertisedWords o (c .routes .words) (g .«received_routes» .words) ≡ received g c o .«received_routes» .words
+received-routes g c (Datagram start size next) = refl
+received-routes g c (Assigned next) = refl
+received-routes g c (Requested next) = refl
+received-routes g c (Advertised next) = refl
+received-routes g c (Skipped next) = refl
+received-routes g c (Refused r) = refl
+
+-- a reading against the grants g, as the host sees it: the capsule, the received lists, and the requested entries
+abbrev Hosted : Grants → List ℕ → ℕ → List ℕ → PlainCapsule → List ℕ → List ℕ → List ℕ → Type 0
+Hosted g s at before p addresses routes requested =
+    (p ≡ plainCapsule at (readGrants g s at .capsule .outcome))
+    × ((addresses ≡ readGrants g s at .grants .«received_addresses» .words)
+    × ((routes ≡ readGrants g s at .grants .«received_routes» .words)
+    × (requested ≡ requestedWords (readGrants g s at .capsule .outcome) (readGrants g s at .capsule .addresses .words) before)))
+
+-- a state that breaks its rules
+pub hosted-broken : (g : Grants) (s : List ℕ) (at : ℕ) (before : List ℕ) {p : PlainCapsule}
+    → soundGrants g ≡ false
+    → p ≡ plainCapsule at (Refused BrokenState)
+    → Hosted g s at before p (g .«received_addresses» .words) (g .«received_routes» .words) before
+unfolding readGrants
+hosted-broken g s at before b e = rw b (e, (refl, (refl, refl)))
+
+-- a sound state
+pub hosted-sound : (g : Grants) (s : List ℕ) (at : ℕ) (before : List ℕ) (c : CapsuleRead) {p : PlainCapsule} {addresses routes requested : List ℕ}
+    → soundGrants g ≡ true
+    → c ≡ readAt s at
+    → (addresses ≡ assignedWords (c .outcome) (c .addresses .words) (g .«received_addresses» .words))
+    × ((routes ≡ advertisedWords (c .outcome) (c .routes .words) (g .«received_routes» .words))
+    × (requested ≡ requestedWords (c .outcome) (c .addresses .words) before))
+    → p ≡ plainCapsule at (c .outcome)
+    → Hosted g s at before p addresses routes requested
+unfolding readGrants
+hosted-sound g s at before c b e k f =
+    rw (b, ← e)
+    (f, (k .0 ∙ received-addresses g c (c .outcome), (k .1 .0 ∙ received-routes g c (c .outcome), k .1 .1)))
 
 given-addresses-after : (v : Verdict) (g : Grants) (l : AddressList)
     → stateOf v (withGivenAddresses g l) g .«given_addresses» .words ≡ loaded v (l .words) (g .«given_addresses» .words)

@@ -70,14 +70,30 @@ plainCapsule at o =
       next = nextPlace at o;
     }
 
--- what the host's memory for requested entries holds after an outcome: the entries of an ADDRESS_REQUEST, else what it held
+-- what the host's memory for a list holds after an outcome: the list of the capsule whose memory it is, else what it held
+abbrev pub assignedWords : Outcome → List ℕ → List ℕ → List ℕ
+assignedWords (Datagram start size next) new before = before
+assignedWords (Assigned next) new before = new
+assignedWords (Requested next) new before = before
+assignedWords (Advertised next) new before = before
+assignedWords (Skipped next) new before = before
+assignedWords (Refused r) new before = before
+
+abbrev pub advertisedWords : Outcome → List ℕ → List ℕ → List ℕ
+advertisedWords (Datagram start size next) new before = before
+advertisedWords (Assigned next) new before = before
+advertisedWords (Requested next) new before = before
+advertisedWords (Advertised next) new before = new
+advertisedWords (Skipped next) new before = before
+advertisedWords (Refused r) new before = before
+
 abbrev pub requestedWords : Outcome → List ℕ → List ℕ → List ℕ
-requestedWords (Datagram start size next) entries before = before
-requestedWords (Assigned next) entries before = before
-requestedWords (Requested next) entries before = entries
-requestedWords (Advertised next) entries before = before
-requestedWords (Skipped next) entries before = before
-requestedWords (Refused r) entries before = before
+requestedWords (Datagram start size next) new before = before
+requestedWords (Assigned next) new before = before
+requestedWords (Requested next) new before = new
+requestedWords (Advertised next) new before = before
+requestedWords (Skipped next) new before = before
+requestedWords (Refused r) new before = before
 
 -- the number of a verdict: 0 is `Go`
 abbrev pub verdictNumber : Verdict → ℕ

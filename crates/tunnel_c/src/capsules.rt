@@ -2,6 +2,7 @@
 use super::PlainAnswer;
 use super::grants_of;
 use super::plain;
+use answer::Refusal;
 use capsule::Outcome;
 use lists::ADDRESS_WORDS;
 use lists::AddressList;
@@ -16,7 +17,7 @@ ghost use Rattle.exchange.specs.Exchange.{readGrants, assignVerdict, advertiseV
 ghost use Rattle.lent_plan.specs.Words.{loaded};
 ghost use Rattle.tunnel.specs.Tunnel.{grantsOf};
 ghost use mathlib.Core.Bool.{true};
-ghost use Rattle.tunnel_c.specs.Plain.{PlainWrites, plainCapsule, requestedWords};
+ghost use Rattle.tunnel_c.specs.Plain.{PlainWrites, plainCapsule, assignedWords, advertisedWords, requestedWords};
 
 // What stood at a place: the kind is its type, or 4 for a type that was skipped; a DATAGRAM's value has a start and a length.
 #[repr(C)]
@@ -44,32 +45,51 @@ pub extern "C" fn whapirohi_read_capsule_over<'a>(
     ensures { λ _. ⌜ now («received_routes» .exit) ≡ readGrants (grantsOf (now («received_addresses» .entry)) (now («received_routes» .entry)) (now («given_addresses» .entry)) (now («given_routes» .entry))) (now (bytes .entry)) at .grants .«received_routes» .words ⌝ }
     ensures { λ _. ⌜ now (requested .exit) ≡ requestedWords (readGrants (grantsOf (now («received_addresses» .entry)) (now («received_routes» .entry)) (now («given_addresses» .entry)) (now («given_routes» .entry))) (now (bytes .entry)) at .capsule .outcome) (readGrants (grantsOf (now («received_addresses» .entry)) (now («received_routes» .entry)) (now («given_addresses» .entry)) (now («given_routes» .entry))) (now (bytes .entry)) at .capsule .addresses .words) (now (requested .entry)) ⌝ }
 {
-    let grants = grants_of(
+    if !verdict::all_sound(
         received_addresses,
         received_routes,
         given_addresses,
         given_routes,
-    );
-    let read = exchange::read_capsule(grants, bytes, at);
-    let after = read.grants;
-    let addresses = after.received_addresses;
-    let address_words = addresses.words;
-    *received_addresses = address_words;
-    let routes = after.received_routes;
-    let route_words = routes.words;
-    *received_routes = route_words;
-    let capsule = read.capsule;
+    ) {
+        return plain_capsule(Outcome::Refused(Refusal::BrokenState), at);
+    }
+    let capsule = capsule::read(bytes, at);
     let outcome = capsule.outcome;
     let entries = capsule.addresses;
-    hand_over(outcome, entries, requested);
+    let ranges = capsule.routes;
+    keep(
+        outcome,
+        entries,
+        ranges,
+        received_addresses,
+        received_routes,
+        requested,
+    );
     plain_capsule(outcome, at)
 }
 
-// The entries of an ADDRESS_REQUEST to the host's memory.
-fn hand_over(outcome: Outcome, entries: AddressList, requested: &mut [u64; ADDRESS_WORDS])
+// The list of a capsule to the host's memory for it.
+fn keep(
+    outcome: Outcome,
+    entries: AddressList,
+    ranges: RouteList,
+    received_addresses: &mut [u64; ADDRESS_WORDS],
+    received_routes: &mut [u64; ROUTE_WORDS],
+    requested: &mut [u64; ADDRESS_WORDS],
+)
+    ensures { λ _. ⌜ now («received_addresses» .exit) ≡ assignedWords outcome (entries .words) (now («received_addresses» .entry)) ⌝ }
+    ensures { λ _. ⌜ now («received_routes» .exit) ≡ advertisedWords outcome (ranges .words) (now («received_routes» .entry)) ⌝ }
     ensures { λ _. ⌜ now (requested .exit) ≡ requestedWords outcome (entries .words) (now (requested .entry)) ⌝ }
 {
     match outcome {
+        Outcome::Assigned { next: _ } => {
+            let words = entries.words;
+            *received_addresses = words;
+        }
+        Outcome::Advertised { next: _ } => {
+            let words = ranges.words;
+            *received_routes = words;
+        }
         Outcome::Requested { next: _ } => {
             let words = entries.words;
             *requested = words;
@@ -79,8 +99,6 @@ fn hand_over(outcome: Outcome, entries: AddressList, requested: &mut [u64; ADDRE
             length: _,
             next: _,
         } => {}
-        Outcome::Assigned { next: _ } => {}
-        Outcome::Advertised { next: _ } => {}
         Outcome::Skipped { next: _ } => {}
         Outcome::Refused(_) => {}
     }

@@ -147,8 +147,15 @@ fn capsule(name: &[u8], bytes: &[u8]) {
     text(name);
     text(b": ");
     let r = capsule::read(bytes, 0);
-    let outcome = r.outcome;
-    match outcome {
+    let addresses = r.addresses;
+    let routes = r.routes;
+    let found = r.outcome;
+    outcome(found, addresses.words[0], routes.words[0]);
+    text(b"\n");
+}
+
+fn outcome(found: Outcome, addresses: u64, routes: u64) {
+    match found {
         Outcome::Datagram {
             start,
             length,
@@ -157,16 +164,13 @@ fn capsule(name: &[u8], bytes: &[u8]) {
             datagram(start, length, next);
         }
         Outcome::Assigned { next } => {
-            let list = r.addresses;
-            elements(b"assigned ", list.words[0], next);
+            elements(b"assigned ", addresses, next);
         }
         Outcome::Requested { next } => {
-            let list = r.addresses;
-            elements(b"requested ", list.words[0], next);
+            elements(b"requested ", addresses, next);
         }
         Outcome::Advertised { next } => {
-            let list = r.routes;
-            elements(b"advertised ", list.words[0], next);
+            elements(b"advertised ", routes, next);
         }
         Outcome::Skipped { next } => {
             skipped(next);
@@ -175,7 +179,6 @@ fn capsule(name: &[u8], bytes: &[u8]) {
             refused(why);
         }
     }
-    text(b"\n");
 }
 
 fn datagram(start: usize, length: usize, next: usize) {

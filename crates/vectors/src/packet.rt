@@ -35,12 +35,12 @@ pub(crate) fn packets() {
 fn sending(plan: &[u64; PLAN_WORDS]) {
     crate::text(b"sending\n");
     sent_checksums(plan);
+    sent_ports();
     sent_hops(plan);
     sent_judged(plan);
     sent_limits(plan);
 }
 
-// Checksums of the packet; the second template holds no ports.
 fn sent_checksums(plan: &[u64; PLAN_WORDS]) {
     sent(
         b"example",
@@ -57,6 +57,10 @@ fn sent_checksums(plan: &[u64; PLAN_WORDS]) {
         plan,
         b"\x45\x00\x00\x1c\x00\x00\x00\x00\x40\x11\x8e\x98\xc0\x00\x02\x03\xc6\x33\x64\x02\x03\xe8\x07\xd0\x00\x08\x00\x00",
     );
+}
+
+// A template that holds no ports.
+fn sent_ports() {
     let mut ports = [0u64; PLAN_WORDS];
     lent_plan::read_plan(
         b"\x56\x41\x4e\x00\x01\x01\x03\x01\x0c\x08\xc0\x00\x02\x03\xc6\x33\x64\x02\x01\x1a\x14",
