@@ -58,7 +58,7 @@ module _ (kind : ℕ) (v rest : List ℕ) (h : kind ≤ 3) (l : length v ≤ max
         short = λ k. l;
       }
 
-  read-framed : readCapsule (frameBytes kind v ++ rest) ≡ readValue kind v (encodedSize kind + encodedSize (length v))
+  pub read-framed : readCapsule (frameBytes kind v ++ rest) ≡ readValue kind v (encodedSize kind + encodedSize (length v))
   unfolding readCapsule
   read-framed = rw (Frame.framed-frame framed, behind-length, take-append-seam v rest)
 

@@ -1,0 +1,20 @@
+-- Room in the output for what an answer says was written behind its head. Assumes nothing.
+use Prim.Native.Nat.{ℕ, _+_, _-_, _≤_}
+use mathlib.Core.Path.{_≡_}
+use mathlib.Core.List.{List}
+use native.Mathlib.Omega.{arith}
+use lib.ListN.{length, take, drop, length-take, length-drop}
+use borrow.Rule.Slice.PartMut.{putMid, same-len-mid}
+use Rattle.answer.specs.declared.Answer.{Answer}
+use Rattle.answer.specs.declared.Verdict.{Verdict}
+use Rattle.answer.specs.Number.{answerLength}
+use Rattle.answer.specs.Verdict.{Writes}
+use Rattle.records.proofs.Answered.{answered-within}
+
+-- `&mut out[start..]` was lent to a function that writes, and came back as b
+pub answer-room : (out : List ℕ) (start : ℕ) {v : Verdict} {m b : List ℕ} {r : Answer} → start ≤ length out
+    → Writes v m (take (length out - start) (drop start out)) r b → length b ≡ length (take (length out - start) (drop start out))
+    → start + answerLength r ≤ length (putMid start (length out - start) out b)
+answer-room out start {b = b} h w k =
+    let l : length (take (length out - start) (drop start out)) ≡ length out - start = simp (length-take, length-drop) (omega arith) in
+    omega (arith, answered-within w, same-len-mid start (length out - start) out b k)

@@ -1,0 +1,108 @@
+-- What was written lies in the output, by `answer-room`.
+use native.Mathlib.Omega.{arith}
+use Rattle.van_box.proofs.Rooms.{answer-room}
+use borrow.Author.Needs.{needs}
+use Rattle.van_box.proofs.answers.still_record.Statement.{statement}
+use Rattle.van_box.proofs.answers.still_record.Tie as tie
+
+add-start : tie.Need-add-start
+add-start c = search needs
+
+sub-send : tie.Need-sub-send
+sub-send c = search needs
+
+part-send-start : tie.Need-part-send-start
+part-send-start c = search needs
+
+part-send-end : tie.Need-part-send-end
+part-send-end c = search needs
+
+send-requires : tie.Need-send-requires
+send-requires c κs = search needs
+
+put-answer-requires : tie.Need-put-answer-requires
+put-answer-requires c κs =
+    let s = c .before .before .before .before .before .before .before .before .before in
+    let w = c .before .before .before .send in
+    answer-room (s .args .out .now) _ (omega (arith, s .pre)) (w .ensures) (w .kept .1 .1 .1 .0)
+
+same-length : tie.Need-same-length
+same-length c = search needs
+
+returns : tie.Need-returns
+returns c = search needs
+
+sub-receive : tie.Need-sub-receive
+sub-receive c = search needs
+
+part-receive-start : tie.Need-part-receive-start
+part-receive-start c = search needs
+
+part-receive-end : tie.Need-part-receive-end
+part-receive-end c = search needs
+
+receive-requires : tie.Need-receive-requires
+receive-requires c κs = search needs
+
+put-answer-requires-2 : tie.Need-put-answer-requires-2
+put-answer-requires-2 c κs =
+    let s = c .before .before .before .before .before .before .before .before .before .before in
+    let w = c .before .before .before .receive in
+    answer-room (s .args .out .now) _ (omega (arith, s .pre)) (w .ensures) (w .kept .1 .1 .1 .0)
+
+same-length-2 : tie.Need-same-length-2
+same-length-2 c = search needs
+
+returns-2 : tie.Need-returns-2
+returns-2 c = search needs
+
+sub-request : tie.Need-sub-request
+sub-request c = search needs
+
+part-request-start : tie.Need-part-request-start
+part-request-start c = search needs
+
+part-request-end : tie.Need-part-request-end
+part-request-end c = search needs
+
+request-requires : tie.Need-request-requires
+request-requires c κs = search needs
+
+put-answer-requires-3 : tie.Need-put-answer-requires-3
+put-answer-requires-3 c κs =
+    let s = c .before .before .before .before .before .before .before .before .before .before in
+    let w = c .before .before .before .request in
+    answer-room (s .args .out .now) _ (omega (arith, s .pre)) (w .ensures) (w .kept .1 .0)
+
+same-length-3 : tie.Need-same-length-3
+same-length-3 c = search needs
+
+returns-3 : tie.Need-returns-3
+returns-3 c = search needs
+
+pub still-record-spec : {M : Type 1} → statement M
+still-record-spec =
+    tie.close
+    (tie.spec
+    add-start
+    sub-send
+    part-send-start
+    part-send-end
+    send-requires
+    put-answer-requires
+    same-length
+    returns
+    sub-receive
+    part-receive-start
+    part-receive-end
+    receive-requires
+    put-answer-requires-2
+    same-length-2
+    returns-2
+    sub-request
+    part-request-start
+    part-request-end
+    request-requires
+    put-answer-requires-3
+    same-length-3
+    returns-3)

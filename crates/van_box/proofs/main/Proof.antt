@@ -1,0 +1,51 @@
+-- What is held fits the input; the measure is the number of turns that are left.
+use Prim.Native.Nat.{_≤_}
+use Rattle.van_box.specs.Sizes.{inputRoom}
+use borrow.Author.Needs.{needs}
+use Rattle.van_box.proofs.main.Statement.{statement}
+use Rattle.van_box.proofs.main.Tie as tie
+
+abbrev Inv-loop : tie.InvT-loop
+Inv-loop input₀ out₀ plan₀ now₀ turns₀ input out plan now turns = now .held ≤ inputRoom
+
+abbrev μ-loop : tie.MeasureT-loop
+μ-loop input₀ out₀ plan₀ now₀ turns₀ input out plan now turns = turns
+
+start-requires : tie.Need-start-requires Inv-loop μ-loop
+start-requires c κs = search needs
+
+loop-holds : tie.Need-loop-holds Inv-loop μ-loop
+loop-holds c = search needs
+
+turn-requires : tie.Need-turn-requires Inv-loop μ-loop
+turn-requires c κs = search needs
+
+sub-turns : tie.Need-sub-turns Inv-loop μ-loop
+sub-turns c = search needs
+
+loop-less : tie.Need-loop-less Inv-loop μ-loop
+loop-less c = search needs
+
+loop-again : tie.Need-loop-again Inv-loop μ-loop
+loop-again c = search needs
+
+returns : tie.Need-returns Inv-loop μ-loop
+returns c = search needs
+
+returns-2 : tie.Need-returns-2 Inv-loop μ-loop
+returns-2 c = search needs
+
+pub main-spec : {M : Type 1} → statement M
+main-spec =
+    tie.close
+    (tie.spec
+    Inv-loop
+    μ-loop
+    start-requires
+    loop-holds
+    turn-requires
+    sub-turns
+    loop-less
+    loop-again
+    returns
+    returns-2)
