@@ -2,7 +2,7 @@
  * A host in C: two ends of a tunnel, one packet sent short and received.
  *
  *   rt staticlib tunnel_c
- *   cc -std=c99 -Wall -Wextra -Iinclude examples/embed.c target/staticlib/libtunnel_c.a -o target/embed && target/embed
+ *   cc -std=c99 -Wall -Wextra -Iinclude examples/embed.c target/staticlib/libtunnel_c.a -o target/embed-host && target/embed-host
  */
 #include "whapirohi.h"
 
