@@ -37,7 +37,7 @@ enum {
 
 /* The plan in words: the count of templates, then 149 words a template: Context ID, count of segments, 1 with a checksum and 0 without,
  * field, start, 8 segments of two words (offset, length), and 128 words with a static byte each: that of position p of a packet is word p.
- * A third word other than 0 counts as 1. Bits above a static byte, templates and segments past their counts, bytes outside all segments, and
+ * A third word that is neither breaks the plan's rules. Bits above a static byte, templates and segments past their counts, bytes outside all segments, and
  * field and start without a checksum mean nothing; they are 0 in a plan that the box reads. */
 typedef struct whapirohi_state {
     uint64_t received_addresses[WHAPIROHI_ADDRESS_WORDS];

@@ -1,5 +1,6 @@
 -- What the box promises, in the paper's words and order. Each is a statement about the very definitions that the
 -- contracts of `tunnel::send` and `tunnel::receive` cite: `sendAnswer`, `sendOutput`, `receiveAnswer` and `receiveOutput` are what those say.
+-- They hold of any plan; that of the functions is `lentPlan` of the words lent to them.
 -- "Room" is an output that is large enough and nothing handed in that breaks its own rules.
 use Prim.Native.Nat.{ℕ, _+_, _-_, _%_, _≤_}
 use mathlib.Core.Path.{_≡_, refl, sym, ap, _∙_}

@@ -13,7 +13,7 @@ use Rattle.plan.specs.declared.Template.{Template}
 use Rattle.plan.specs.declared.Plan.{Plan}
 use Rattle.plan.specs.Rules.{maxTemplates, maxSegments, staticLimit}
 use Rattle.plan.specs.Shapes.{noSegment, segmentAt, templateAt}
-use Rattle.lent_plan.specs.Lent.{templateWords, lentSegment, lentByte, lentTemplate, lentPlan}
+use Rattle.lent_plan.specs.Lent.{templateWords, lentField, lentSegment, lentByte, lentTemplate, lentPlan}
 use Rattle.lent_plan.specs.Words.{eachFrom, flagWord, headWords, segmentWords, segmentsWords, imageWords, templateWordsOf, templatesWords, wordsOf}
 use Rattle.lent_plan.proofs.Views.{getD-from, template-lent}
 use Rattle.lent_plan.proofs.Wording.{length-head, length-segment, length-segments, length-template}
@@ -62,6 +62,10 @@ module _ (t : Template) where
 flag-back : (b : Bool) → not (eqb (flagWord b) 0) ≡ b
 flag-back true = refl
 flag-back false = refl
+
+field-back : (b : Bool) (n : ℕ) → lentField (flagWord b) n ≡ n
+field-back true n = refl
+field-back false n = refl
 
 -- a template that says the same as another, unused segments included
 pub record Same (u t : Template) : Type 0 where
@@ -118,7 +122,10 @@ module _ (p : Plan) where
           id = head-word 0 (i * templateWords + 1) (omega arith) (omega arith);
           count = head-word 1 (i * templateWords + 2) (omega arith) (omega arith);
           checksum = ap (λ (n : ℕ). not (eqb n 0)) (head-word 2 (i * templateWords + 3) (omega arith) (omega arith)) ∙ flag-back (t .checksum);
-          field = head-word 3 (i * templateWords + 4) (omega arith) (omega arith);
+          field =
+              ap (λ (n : ℕ). lentField n (getD (wordsOf p) (i * templateWords + 4) 0)) (head-word 2 (i * templateWords + 3) (omega arith) (omega arith))
+              ∙ field-back (t .checksum) (getD (wordsOf p) (i * templateWords + 4) 0)
+              ∙ head-word 3 (i * templateWords + 4) (omega arith) (omega arith);
           start = head-word 4 (i * templateWords + 5) (omega arith) (omega arith);
           segments = λ j g. getD-from (lentSegment (wordsOf p) i) noSegment maxSegments j g ∙ segment-back j g;
           bytes = λ k g. getD-from (lentByte (wordsOf p) i) 0 staticLimit k g ∙ byte-back k g;

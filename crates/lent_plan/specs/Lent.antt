@@ -2,8 +2,9 @@
 use Prim.Native.Nat.{ℕ, _+_, _*_, _%_}
 use mathlib.Core.Bool.{not}
 use mathlib.Core.List.{List}
-use lib.Dec.{eqb}
+use lib.Dec.{eqb, ltb}
 use lib.ListN.{getD}
+use Rattle.answer.specs.Choice.{pick}
 use Rattle.octets.specs.Scan.{from}
 use Rattle.plan.specs.declared.Segment.{Segment}
 use Rattle.plan.specs.declared.Template.{Template}
@@ -29,6 +30,10 @@ lentSegment w i j =
 unfoldable pub lentByte : List ℕ → ℕ → ℕ → ℕ
 lentByte w i p = getD w (i * templateWords + p + 22) 0 % 256
 
+-- where a checksum's field stands: a flag is 0 or 1, and with any other word for it the field is 0, which no rule of a checksum allows
+abbrev pub lentField : ℕ → ℕ → ℕ
+lentField flag field = pick (ltb 1 flag) 0 field
+
 -- what a template says beside its segments and static bytes
 abbrev pub headOf : Template → Head
 headOf t = record { id = t .id; count = t .count; checksum = t .checksum; field = t .field; start = t .start }
@@ -42,7 +47,7 @@ lentTemplate w i =
       segments = from (lentSegment w i) 0 maxSegments;
       bytes = from (lentByte w i) 0 staticLimit;
       checksum = not (eqb (wordOf w i 3) 0);
-      field = wordOf w i 4;
+      field = lentField (wordOf w i 3) (wordOf w i 4);
       start = wordOf w i 5;
     }
 

@@ -1,5 +1,5 @@
 // A plan in words that a host owns and lends: no packet pays for a copy of it.
-// Word 0 is the count of templates. Each template has 149 words after it: Context ID, count of segments, a checksum or not, field, start,
+// Word 0 is the count of templates. Each template has 149 words after it: Context ID, count of segments, 1 with a checksum and 0 without, field, start,
 // 8 segments of two words, and an image of a packet's first 128 bytes, a byte in each word. What stands past a count is ignored.
 mod by_value; // by_value.rt: a lent plan by value again
 mod putting; // putting.rt: a plan put into lent words
@@ -16,7 +16,7 @@ ghost use Prim.Native.Nat.{_<_};
 ghost use lib.ListN.{getD};
 ghost use Rattle.plan.specs.Rules.{maxTemplates, maxSegments, staticLimit};
 ghost use Rattle.plan.specs.Shapes.{segmentAt, templateAt};
-ghost use Rattle.lent_plan.specs.Lent.{headOf, lentPlan};
+ghost use Rattle.lent_plan.specs.Lent.{headOf, lentField, lentPlan};
 
 // The words of a template, and of a plan.
 pub const TEMPLATE_WORDS: usize = 149;
@@ -40,8 +40,9 @@ pub fn head_at(w: &[u64; PLAN_WORDS], i: usize) -> Head
     let b = i * TEMPLATE_WORDS;
     let id = ContextId(w[b + 1]);
     let count = w[b + 2] as usize;
-    let checksum = w[b + 3] != 0;
-    let field = w[b + 4] as usize;
+    let flag = w[b + 3];
+    let checksum = flag != 0;
+    let field = field_of(flag, w[b + 4] as usize);
     let start = w[b + 5] as usize;
     Head {
         id,
@@ -50,6 +51,16 @@ pub fn head_at(w: &[u64; PLAN_WORDS], i: usize) -> Head
         field,
         start,
     }
+}
+
+// A flag is 0 or 1: with any other the field is 0, which breaks the rule of a checksum.
+fn field_of(flag: u64, field: usize) -> usize
+    ensures { λ r. ⌜ r ≡ lentField flag field ⌝ }
+{
+    if 1 < flag {
+        return 0;
+    }
+    field
 }
 
 // Segment j of template i: two of the words 6 to 21.

@@ -1,7 +1,7 @@
 //! The words of a state, as `include/whapirohi.h` lays them out, and the reference's types.
 //!
-//! Bits of a word above the version and the prefix or protocol, and above a static byte, mean nothing; a template's third word says that there
-//! is a checksum where it is not 0. Unused words mean nothing and are 0 where words are made here.
+//! Bits of a word above the version and the prefix or protocol, and above a static byte, mean nothing; a template's third word, its flag, is
+//! 0 or 1. Unused words mean nothing and are 0 where words are made here.
 
 use whapirohi_reference::{
     AddressEntry, AddressList, Checksum, ContextId, Grants, List, Plan, RequestId, RouteList, RouteRange, Segment,
@@ -118,7 +118,12 @@ fn template_of(w: &[u64]) -> Template {
     for (byte, b) in template.bytes.iter_mut().zip(&w[BYTES..]) {
         *byte = *b as u8;
     }
-    template.checksum = (w[FLAG] != 0).then_some(Checksum { field: w[FIELD] as usize, start: w[START] as usize });
+    // The paper's flag is 0 or 1. The reference has no place for another, so that it gets a checksum that breaks its rule: both are 9, or 23.
+    template.checksum = match w[FLAG] {
+        0 => None,
+        1 => Some(Checksum { field: w[FIELD] as usize, start: w[START] as usize }),
+        _ => Some(Checksum { field: 0, start: 0 }),
+    };
     template
 }
 

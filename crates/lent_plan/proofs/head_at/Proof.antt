@@ -1,7 +1,7 @@
 -- Each index is below 1193, and the words are those that the template of the lent plan has.
-use mathlib.Core.Path.{ap, sym}
+use mathlib.Core.Path.{ap, sym, _∙_}
 use Rattle.lent_plan.specs.Lent.{headOf, lentTemplate}
-use Rattle.lent_plan.proofs.Views.{template-lent}
+use Rattle.lent_plan.proofs.Views.{template-lent, head-same}
 use borrow.Author.Needs.{needs}
 use Rattle.lent_plan.proofs.head_at.Statement.{statement}
 use Rattle.lent_plan.proofs.head_at.Tie as tie
@@ -27,23 +27,26 @@ mul-count-2 c = search needs
 element-copy-out-count-2 : tie.Need-element-copy-out-count-2
 element-copy-out-count-2 c = search needs
 
-add-checksum : tie.Need-add-checksum
-add-checksum c = search needs
+add-flag : tie.Need-add-flag
+add-flag c = search needs
 
-mul-checksum : tie.Need-mul-checksum
-mul-checksum c = search needs
+mul-flag : tie.Need-mul-flag
+mul-flag c = search needs
 
-element-copy-out-checksum : tie.Need-element-copy-out-checksum
-element-copy-out-checksum c = search needs
+element-copy-out-flag : tie.Need-element-copy-out-flag
+element-copy-out-flag c = search needs
 
-add-field : tie.Need-add-field
-add-field c = search needs
+add-field-of : tie.Need-add-field-of
+add-field-of c = search needs
 
-mul-field : tie.Need-mul-field
-mul-field c = search needs
+mul-field-of : tie.Need-mul-field-of
+mul-field-of c = search needs
 
-element-copy-out-field : tie.Need-element-copy-out-field
-element-copy-out-field c = search needs
+element-copy-out-field-of : tie.Need-element-copy-out-field-of
+element-copy-out-field-of c = search needs
+
+field-of-requires : tie.Need-field-of-requires
+field-of-requires c κs = search needs
 
 add-start : tie.Need-add-start
 add-start c = search needs
@@ -57,8 +60,9 @@ element-copy-out-start c = search needs
 returns : tie.Need-returns
 unfolding lentTemplate
 returns c =
-    let a = c .before .before .before .before .before in
-    ap headOf (sym (template-lent (a .args .w .now) (a .args .i) (a .pre)))
+    let a = c .before .before .before .before .before .before in
+    head-same (headOf (lentTemplate (a .args .w .now) (a .args .i))) (c .before .field-of .ensures)
+    ∙ ap headOf (sym (template-lent (a .args .w .now) (a .args .i) (a .pre)))
 
 pub head-at-spec : {M : Type 1} → statement M
 head-at-spec =
@@ -71,12 +75,13 @@ head-at-spec =
     add-count-2
     mul-count-2
     element-copy-out-count-2
-    add-checksum
-    mul-checksum
-    element-copy-out-checksum
-    add-field
-    mul-field
-    element-copy-out-field
+    add-flag
+    mul-flag
+    element-copy-out-flag
+    add-field-of
+    mul-field-of
+    element-copy-out-field-of
+    field-of-requires
     add-start
     mul-start
     element-copy-out-start
