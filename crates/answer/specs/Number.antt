@@ -10,6 +10,8 @@ use Rattle.answer.specs.declared.Refusal.the-variants.{BrokenState, BadF
 use Rattle.answer.specs.declared.Refusal.the-variants.{PlanMark, PlanVersion, PlanCut, PlanRule, PlanNotShortest, PlanContext}
 use Rattle.answer.specs.declared.Answer.{Answer}
 use Rattle.answer.specs.declared.Answer.the-variants.{Done, Refused}
+use Rattle.answer.specs.declared.Verdict.{Verdict}
+use Rattle.answer.specs.declared.Verdict.the-variants.{Go, Stop}
 
 abbrev pub numberOf : Refusal → ℕ
 numberOf Incomplete = 1
@@ -38,6 +40,11 @@ numberOf PlanContext = 25
 abbrev pub answerNumber : Answer → ℕ
 answerNumber (Done n) = 0
 answerNumber (Refused r) = numberOf r
+
+-- the number of a verdict: 0 is `Go`
+abbrev pub verdictNumber : Verdict → ℕ
+verdictNumber Go = 0
+verdictNumber (Stop r) = numberOf r
 
 -- how many bytes an answer says were written: a refusal's length is 0
 abbrev pub answerLength : Answer → ℕ

@@ -39,6 +39,11 @@ abbrev pub outputOf : Verdict → List ℕ → List ℕ → List ℕ
 outputOf Go message out = message ++ drop (length message) out
 outputOf (Stop r) message out = out
 
+-- what a call leaves: the new value, or on a refusal the one before
+abbrev pub kept : {A : Type 0} → Verdict → A → A → A
+kept Go new before = new
+kept (Stop r) new before = before
+
 -- the first verdict that is no `Go`
 infixl 15 _then_
 abbrev pub _then_ : Verdict → Verdict → Verdict

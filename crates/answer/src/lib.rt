@@ -1,7 +1,7 @@
 // What the box answers: the refusals with their numbers, the answer of an entry point that writes, and the verdict of one that judges.
 // The numbers are those of the table "Numbers the box gives back"; 8 and 17 to 19 are not in it.
 ghost use mathlib.Core.Path.{_≡_};
-ghost use Rattle.answer.specs.Number.{numberOf, answerNumber, answerLength};
+ghost use Rattle.answer.specs.Number.{numberOf, verdictNumber, answerNumber, answerLength};
 
 // A reason to refuse, one for each number.
 pub enum Refusal {
@@ -87,6 +87,18 @@ impl Refusal {
             Refusal::PlanRule => 23,
             Refusal::PlanNotShortest => 24,
             Refusal::PlanContext => 25,
+        }
+    }
+}
+
+impl Verdict {
+    // 0 where it goes on, and else the refusal's number.
+    pub fn number(self) -> u8
+        ensures { λ r. ⌜ r ≡ verdictNumber self ⌝ }
+    {
+        match self {
+            Verdict::Go => 0,
+            Verdict::Stop(why) => why.number(),
         }
     }
 }

@@ -1,3 +1,4 @@
 pub mod Big
 pub mod Wide
 pub mod Scan
+pub mod Parts

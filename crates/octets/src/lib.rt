@@ -1,4 +1,5 @@
-// Numbers as bytes and as words: the big-endian value of up to 8 bytes, the bytes of a number, and numbers of 128 bits in two words of 64.
+// Numbers as bytes and as words: the big-endian value of up to 8 bytes, the bytes of a number, numbers of 128 bits in two words of 64,
+// and words copied.
 // The inner functions of the codecs above; each says what it requires, and no entry point of the box is here.
 ghost use mathlib.Core.Path.{_≡_};
 ghost use mathlib.Core.List.{_++_};
@@ -84,4 +85,16 @@ pub fn low_zero_wide(k: u64, hi: u64, lo: u64) -> bool
         return low_zero(k - 64, hi);
     }
     false
+}
+
+// Copies words to as many words.
+pub fn copy_words(from: &[u64], to: &mut [u64])
+    requires { ⌜ length (now from) ≡ length (now to) ⌝ }
+    ensures { λ _. ⌜ now (to .exit) ≡ now (from .entry) ⌝ }
+{
+    let mut i: usize = 0;
+    while i < from.len() {
+        to[i] = from[i];
+        i += 1;
+    }
 }

@@ -9,6 +9,8 @@ use Rattle.answer.specs.declared.Answer.the-variants.{Done, Refused}
 use Rattle.answer.specs.declared.Refusal.the-variants.{BadAddress, NoRoom}
 use Rattle.answer.specs.declared.Verdict.the-variants.{Go, Stop}
 use Rattle.answer.specs.Verdict.{Writes}
+use Rattle.output.specs.Places.{Put}
+use Rattle.output.proofs.Placing.{put-front}
 use Rattle.varint.specs.Numbers.{limit, room, encode, encodedSize, writeTests, writeVerdict}
 
 module _ (v : ℕ) (out : List ℕ) where
@@ -26,9 +28,9 @@ module _ (v : ℕ) (out : List ℕ) where
       unfolding writeVerdict writeTests
       goes = simp (le-ltb _ _ h, lt-leb _ _ g)
 
-      -- e, the shortest form, stands at the front
-      pub done : {e after : List ℕ} → encode v ≡ e → after ≡ e ++ drop (length e) out → Writes (writeVerdict v (length out)) (encode v) out (Done (length e)) after
-      done f a = record { answer = rw (goes, f); output = rw (goes, f) a }
+      -- the number put at the front
+      pub put : {after : List ℕ} {r : ℕ} → Put (encode v) 0 out r after → Writes (writeVerdict v (length out)) (encode v) out (Done r) after
+      put p = let f = put-front p in record { answer = rw goes (ap Done (f .0)); output = rw goes (f .1) }
 
       -- what a caller learns that has room and a value below the limit
       pub wrote : {after : List ℕ} {r : Answer} → Writes (writeVerdict v (length out)) (encode v) out r after

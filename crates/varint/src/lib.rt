@@ -4,10 +4,11 @@
 use answer::Answer;
 use answer::Refusal;
 ghost use mathlib.Core.Path.{_≡_};
-ghost use Prim.Native.Nat.{_≤_, _^_, _/_};
+ghost use Prim.Native.Nat.{_+_, _≤_, _<_, _^_, _/_};
 ghost use lib.ListN.{length};
 ghost use Rattle.answer.specs.Verdict.{Writes};
-ghost use Rattle.varint.specs.Numbers.{Read, readingNumber, encode, encodedSize, shortest, writeVerdict};
+ghost use Rattle.output.specs.Places.{Put};
+ghost use Rattle.varint.specs.Numbers.{Read, readingNumber, limit, encode, encodedSize, shortest, writeVerdict};
 
 // 2^62: the first value that no form holds.
 pub const LIMIT: u64 = 4611686018427387904;
@@ -77,20 +78,25 @@ pub fn write(value: u64, out: &mut [u8]) -> Answer
     if LIMIT <= value {
         return Answer::Refused(Refusal::BadAddress);
     }
+    Answer::Done(put_number(out, 0, value))
+}
+
+// Puts the value in its shortest form at a place of the output, and returns the place behind it: for the writers above, which know that there is room.
+pub fn put_number(out: &mut [u8], at: usize, value: u64) -> usize
+    requires { ⌜ at + encodedSize value ≤ length (now out) ⌝ }
+    requires { ⌜ value < limit ⌝ }
+    ensures { λ r. ⌜ Put (encode value) at (now (out .entry)) r (now (out .exit)) ⌝ }
+{
     if value < 64 {
-        octets::put_digits(out, 1, value);
-        return Answer::Done(1);
+        return output::put_digits(out, at, 1, value);
     }
     if value < 16384 {
-        octets::put_digits(out, 2, 16384 + value);
-        return Answer::Done(2);
+        return output::put_digits(out, at, 2, 16384 + value);
     }
     if value < 1073741824 {
-        octets::put_digits(out, 4, 2147483648 + value);
-        return Answer::Done(4);
+        return output::put_digits(out, at, 4, 2147483648 + value);
     }
-    octets::put_digits(out, 8, 13835058055282163712 + value);
-    Answer::Done(8)
+    output::put_digits(out, at, 8, 13835058055282163712 + value)
 }
 
 // How many bytes the shortest form of a value takes: 8 also for a value of 2^62 or more, which has none.
