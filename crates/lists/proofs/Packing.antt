@@ -8,7 +8,7 @@ use lib.ListN.{length, set, replicate}
 use Rattle.lists.specs.declared.AddressEntry.{AddressEntry}
 use Rattle.lists.specs.declared.RouteRange.{RouteRange}
 use Rattle.lists.specs.Rules.{idOf}
-use Rattle.lists.specs.Words.{maxAddresses, maxRanges, entryTag, entryWords, packEntries, putEntry}
+use Rattle.lists.specs.Words.{maxAddresses, maxRanges, addressWords, routeWords, entryTag, entryWords, packEntries, putEntry}
 use Rattle.lists.specs.Words.{rangeTag, rangeWords, packRanges, putRange}
 
 -- ---- entries
@@ -57,7 +57,7 @@ length-entry-words zero es = refl
 length-entry-words (suc k) [] = omega (arith, length-entry-words k [])
 length-entry-words (suc k) (x ∷ es) = omega (arith, length-entry-words k es)
 
-pub no-entry-words : replicate 65 0 ≡ 0 ∷ entryWords maxAddresses []
+pub no-entry-words : replicate addressWords 0 ≡ 0 ∷ entryWords maxAddresses []
 no-entry-words = refl
 
 -- with the count set, the list is packed
@@ -65,7 +65,7 @@ pub pack-entries : (n : ℕ) (es : List AddressEntry) → set (n ∷ entryWords 
 unfolding packEntries
 pack-entries n es = refl
 
-pub length-pack-entries : (es : List AddressEntry) → length (packEntries es) ≡ 65
+pub length-pack-entries : (es : List AddressEntry) → length (packEntries es) ≡ addressWords
 unfolding packEntries
 length-pack-entries es = ap suc (length-entry-words maxAddresses es)
 
@@ -121,13 +121,13 @@ length-range-words zero rs = refl
 length-range-words (suc k) [] = omega (arith, length-range-words k [])
 length-range-words (suc k) (x ∷ rs) = omega (arith, length-range-words k rs)
 
-pub no-range-words : replicate 321 0 ≡ 0 ∷ rangeWords maxRanges []
+pub no-range-words : replicate routeWords 0 ≡ 0 ∷ rangeWords maxRanges []
 no-range-words = refl
 
 pub pack-ranges : (n : ℕ) (rs : List RouteRange) → set (n ∷ rangeWords maxRanges rs) 0 (length rs) ≡ packRanges rs
 unfolding packRanges
 pack-ranges n rs = refl
 
-pub length-pack-ranges : (rs : List RouteRange) → length (packRanges rs) ≡ 321
+pub length-pack-ranges : (rs : List RouteRange) → length (packRanges rs) ≡ routeWords
 unfolding packRanges
 length-pack-ranges rs = ap suc (length-range-words maxRanges rs)

@@ -6,7 +6,6 @@ use mathlib.Core.List.{List, [], _∷_}
 use native.Mathlib.Nat.{not-suc-le-zero}
 use native.Mathlib.Omega.{arith}
 use lib.ListN.{length, getD}
-use borrow.Author.Tests.{le-leb}
 use Rattle.answer.proofs.Tests.{and-both}
 use Rattle.lists.specs.declared.AddressEntry.{AddressEntry}
 use Rattle.lists.specs.declared.RouteRange.{RouteRange}
@@ -15,6 +14,7 @@ use Rattle.lists.specs.Rules.{soundEntry, soundRange, inOrder, beforeAll
 use Rattle.lists.specs.Words.{maxAddresses, maxRanges, countOf, entryAt, rangeAt, entriesOf, rangesOf, soundAddresses, soundRoutes}
 use Rattle.lists.specs.Words.{entryWords, rangeWords, packEntries, packRanges, noAddresses, noRoutes}
 use Rattle.octets.proofs.Scans.{from-suc, from-same}
+use Rattle.lists.proofs.ListScans.{facts-addresses, facts-routes}
 use Rattle.lists.proofs.EntryRule as Entry
 use Rattle.lists.proofs.RangeRule as Range
 
@@ -85,23 +85,22 @@ entries-at n k es h s =
 pub entries-pack : (es : List AddressEntry) → length es ≤ maxAddresses → allOf soundEntry es ≡ true
     → entriesOf (packEntries es) ≡ es
 unfolding entriesOf packEntries
-entries-pack es h s = simp (le-leb (length es) maxAddresses h) (entries-at (length es) maxAddresses es h s)
+entries-pack es h s = entries-at (length es) maxAddresses es h s
 
 pub count-pack-entries : (es : List AddressEntry) → countOf (packEntries es) ≡ length es
 unfolding packEntries
 count-pack-entries es = refl
 
 pub sound-pack-entries : (es : List AddressEntry) → length es ≤ maxAddresses → allOf soundEntry es ≡ true
-    → soundAddresses (packEntries es) ≡ true
-unfolding soundAddresses
-sound-pack-entries es h s = rw (count-pack-entries es, le-leb (length es) maxAddresses h, entries-pack es h s) s
+    → soundAddresses (entriesOf (packEntries es)) ≡ true
+sound-pack-entries es h s = rw (entries-pack es h s) (facts-addresses es h s)
 
 -- the empty list
 pub entries-none : entriesOf (noAddresses .words) ≡ []
 unfolding entriesOf
 entries-none = refl
 
-pub sound-none-entries : soundAddresses (noAddresses .words) ≡ true
+pub sound-none-entries : soundAddresses (entriesOf (noAddresses .words)) ≡ true
 unfolding soundAddresses entriesOf
 sound-none-entries = refl
 
@@ -166,21 +165,20 @@ ranges-at n k a rs h s =
 pub ranges-pack : (a : RouteRange) (rs : List RouteRange) → length rs ≤ maxRanges → soundAfter a rs ≡ true
     → rangesOf (packRanges rs) ≡ rs
 unfolding rangesOf packRanges
-ranges-pack a rs h s = simp (le-leb (length rs) maxRanges h) (ranges-at (length rs) maxRanges a rs h s)
+ranges-pack a rs h s = ranges-at (length rs) maxRanges a rs h s
 
 pub count-pack-ranges : (rs : List RouteRange) → countOf (packRanges rs) ≡ length rs
 unfolding packRanges
 count-pack-ranges rs = refl
 
 pub sound-pack-ranges : (rs : List RouteRange) → length rs ≤ maxRanges → soundAfter beforeAll rs ≡ true
-    → soundRoutes (packRanges rs) ≡ true
-unfolding soundRoutes
-sound-pack-ranges rs h s = rw (count-pack-ranges rs, le-leb (length rs) maxRanges h, ranges-pack beforeAll rs h s) s
+    → soundRoutes (rangesOf (packRanges rs)) ≡ true
+sound-pack-ranges rs h s = rw (ranges-pack beforeAll rs h s) (facts-routes rs h s)
 
 pub ranges-none : rangesOf (noRoutes .words) ≡ []
 unfolding rangesOf
 ranges-none = refl
 
-pub sound-none-ranges : soundRoutes (noRoutes .words) ≡ true
+pub sound-none-ranges : soundRoutes (rangesOf (noRoutes .words)) ≡ true
 unfolding soundRoutes rangesOf
 sound-none-ranges = refl

@@ -93,6 +93,6 @@ routes-read-back : rangesOf (packRanges routes) ≡ routes
 unfolding rangesOf packRanges rangeAt routes range4 ipv4 udp
 routes-read-back = refl
 
-routes-sound : soundRoutes (packRanges routes) ≡ true
+routes-sound : soundRoutes (rangesOf (packRanges routes)) ≡ true
 unfolding soundRoutes rangesOf packRanges rangeAt soundRange inOrder routes range4 ipv4 udp
 routes-sound = refl

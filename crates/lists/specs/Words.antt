@@ -1,10 +1,9 @@
--- Lists of entries and of ranges as arrays of words.
+-- Lists of entries and of ranges: their rules, and lists as arrays of words.
 use Prim.Native.Nat.{ℕ, zero, suc, _+_, _*_, _/_, _%_}
-use mathlib.Core.Bool.{Bool, true, false, _&&_}
+use mathlib.Core.Bool.{Bool, _&&_}
 use mathlib.Core.List.{List, [], _∷_}
 use lib.Dec.{leb}
 use lib.ListN.{length, getD, set, replicate}
-use Rattle.answer.specs.Choice.{pick}
 use Rattle.lists.specs.declared.AddressEntry.{AddressEntry}
 use Rattle.lists.specs.declared.AddressList.{AddressList}
 use Rattle.lists.specs.declared.RouteRange.{RouteRange}
@@ -18,7 +17,27 @@ maxAddresses = 16
 abbrev pub maxRanges : ℕ
 maxRanges = 64
 
+-- at most so many elements, and every one sound; ranges are in order
+unfoldable pub soundAddresses : List AddressEntry → Bool
+soundAddresses es = leb (length es) maxAddresses && allOf soundEntry es
+
+unfoldable pub soundRoutes : List RouteRange → Bool
+soundRoutes rs = leb (length rs) maxRanges && soundAfter beforeAll rs
+
 -- ---- what the words say
+
+-- the words of an element, and of a list: the count and the elements
+abbrev pub wordsPerEntry : ℕ
+wordsPerEntry = 4
+
+abbrev pub wordsPerRange : ℕ
+wordsPerRange = 5
+
+abbrev pub addressWords : ℕ
+addressWords = 1 + maxAddresses * wordsPerEntry
+
+abbrev pub routeWords : ℕ
+routeWords = 1 + maxRanges * wordsPerRange
 
 -- word k of element i, of elements of n words
 abbrev pub word : ℕ → List ℕ → ℕ → ℕ → ℕ
@@ -27,40 +46,33 @@ word n w i k = getD w (i * n + k) 0
 unfoldable pub entryAt : List ℕ → ℕ → AddressEntry
 entryAt w i =
     record {
-      «request_id» = record { 0 = word 4 w i 1 };
-      version = word 4 w i 2 % 256;
-      prefix = word 4 w i 2 / 256 % 256;
-      hi = word 4 w i 3;
-      lo = word 4 w i 4;
+      «request_id» = record { 0 = word wordsPerEntry w i 1 };
+      version = word wordsPerEntry w i 2 % 256;
+      prefix = word wordsPerEntry w i 2 / 256 % 256;
+      hi = word wordsPerEntry w i 3;
+      lo = word wordsPerEntry w i 4;
     }
 
 unfoldable pub rangeAt : List ℕ → ℕ → RouteRange
 rangeAt w i =
     record {
-      version = word 5 w i 1 % 256;
-      protocol = word 5 w i 1 / 256 % 256;
-      «start_hi» = word 5 w i 2;
-      «start_lo» = word 5 w i 3;
-      «end_hi» = word 5 w i 4;
-      «end_lo» = word 5 w i 5;
+      version = word wordsPerRange w i 1 % 256;
+      protocol = word wordsPerRange w i 1 / 256 % 256;
+      «start_hi» = word wordsPerRange w i 2;
+      «start_lo» = word wordsPerRange w i 3;
+      «end_hi» = word wordsPerRange w i 4;
+      «end_lo» = word wordsPerRange w i 5;
     }
 
 abbrev pub countOf : List ℕ → ℕ
 countOf w = getD w 0 0
 
--- the elements of a list; none where the count is over the limit
+-- the elements of a list
 unfoldable pub entriesOf : List ℕ → List AddressEntry
-entriesOf w = pick (leb (countOf w) maxAddresses) (from (entryAt w) 0 (countOf w)) []
+entriesOf w = from (entryAt w) 0 (countOf w)
 
 unfoldable pub rangesOf : List ℕ → List RouteRange
-rangesOf w = pick (leb (countOf w) maxRanges) (from (rangeAt w) 0 (countOf w)) []
-
--- the count is within the limit and every element is sound; ranges are in order
-unfoldable pub soundAddresses : List ℕ → Bool
-soundAddresses w = leb (countOf w) maxAddresses && allOf soundEntry (entriesOf w)
-
-unfoldable pub soundRoutes : List ℕ → Bool
-soundRoutes w = leb (countOf w) maxRanges && soundAfter beforeAll (rangesOf w)
+rangesOf w = from (rangeAt w) 0 (countOf w)
 
 -- ---- the words of a list
 
@@ -89,16 +101,16 @@ packRanges rs = length rs ∷ rangeWords maxRanges rs
 
 -- element i stored
 abbrev pub putEntry : List ℕ → ℕ → AddressEntry → List ℕ
-putEntry w i e = set (set (set (set w (i * 4 + 1) (idOf e)) (i * 4 + 2) (entryTag e)) (i * 4 + 3) (e .hi)) (i * 4 + 4) (e .lo)
+putEntry w i e = set (set (set (set w (i * wordsPerEntry + 1) (idOf e)) (i * wordsPerEntry + 2) (entryTag e)) (i * wordsPerEntry + 3) (e .hi)) (i * wordsPerEntry + 4) (e .lo)
 
 abbrev pub putRange : List ℕ → ℕ → RouteRange → List ℕ
 putRange w i r =
     set
     (set
-    (set (set (set w (i * 5 + 1) (rangeTag r)) (i * 5 + 2) (r .«start_hi»)) (i * 5 + 3) (r .«start_lo»))
-    (i * 5 + 4)
+    (set (set (set w (i * wordsPerRange + 1) (rangeTag r)) (i * wordsPerRange + 2) (r .«start_hi»)) (i * wordsPerRange + 3) (r .«start_lo»))
+    (i * wordsPerRange + 4)
     (r .«end_hi»))
-    (i * 5 + 5)
+    (i * wordsPerRange + 5)
     (r .«end_lo»)
 
 abbrev pub addressList : List AddressEntry → AddressList
@@ -108,7 +120,7 @@ abbrev pub routeList : List RouteRange → RouteList
 routeList rs = record { words = packRanges rs }
 
 abbrev pub noAddresses : AddressList
-noAddresses = record { words = replicate 65 0 }
+noAddresses = record { words = replicate addressWords 0 }
 
 abbrev pub noRoutes : RouteList
-noRoutes = record { words = replicate 321 0 }
+noRoutes = record { words = replicate routeWords 0 }

@@ -2,19 +2,24 @@
 // A list is one flat array of words: word 0 is the count, and each element has a fixed number of words after it. What stands past the
 // count is 0 where the box made the list, and is ignored where one is handed in. Nothing here refuses: the tests answer yes or no.
 ghost use mathlib.Core.Path.{_≡_};
-ghost use Prim.Native.Nat.{_<_};
+ghost use Prim.Native.Nat.{_≤_, _<_};
+ghost use lib.ListN.{length};
 ghost use Rattle.lists.specs.Rules.{soundEntry, soundRange, inOrder, beforeAll};
-ghost use Rattle.lists.specs.Words.{maxAddresses, maxRanges, entryAt, rangeAt, putEntry, putRange, soundAddresses, soundRoutes, noAddresses, noRoutes};
+ghost use Rattle.lists.specs.Words.{maxAddresses, maxRanges, addressWords, routeWords, entryAt, rangeAt, entriesOf, rangesOf, putEntry, putRange, soundAddresses, soundRoutes, noAddresses, noRoutes};
 
 // The most entries of an address list, and the most ranges of a route list.
 pub const MAX_ADDRESSES: usize = 16;
 
 pub const MAX_RANGES: usize = 64;
 
-// The words of a list: the count, and 4 for an entry or 5 for a range.
-pub const ADDRESS_WORDS: usize = 65;
+// The words of an element, and of a list: the count and the elements.
+pub const WORDS_PER_ENTRY: usize = 4;
 
-pub const ROUTE_WORDS: usize = 321;
+pub const WORDS_PER_RANGE: usize = 5;
+
+pub const ADDRESS_WORDS: usize = 1 + MAX_ADDRESSES * WORDS_PER_ENTRY;
+
+pub const ROUTE_WORDS: usize = 1 + MAX_RANGES * WORDS_PER_RANGE;
 
 // The first value that is no IPv4 address.
 const IPV4_END: u64 = 4294967296;
@@ -127,11 +132,12 @@ pub fn in_order(a: RouteRange, b: RouteRange) -> bool
 }
 
 // Entry i of the words.
-pub fn entry_at(w: &[u64; ADDRESS_WORDS], i: usize) -> AddressEntry
+pub fn entry_at(w: &[u64], i: usize) -> AddressEntry
+    requires { ⌜ addressWords ≤ length (now w) ⌝ }
     requires { ⌜ i < maxAddresses ⌝ }
     ensures { λ r. ⌜ r ≡ entryAt (now (w .entry)) i ⌝ }
 {
-    let b = i * 4;
+    let b = i * WORDS_PER_ENTRY;
     let request_id = RequestId(w[b + 1]);
     let tag = w[b + 2];
     let version = (tag % 256) as u8;
@@ -148,11 +154,12 @@ pub fn entry_at(w: &[u64; ADDRESS_WORDS], i: usize) -> AddressEntry
 }
 
 // Range i of the words.
-pub fn range_at(w: &[u64; ROUTE_WORDS], i: usize) -> RouteRange
+pub fn range_at(w: &[u64], i: usize) -> RouteRange
+    requires { ⌜ routeWords ≤ length (now w) ⌝ }
     requires { ⌜ i < maxRanges ⌝ }
     ensures { λ r. ⌜ r ≡ rangeAt (now (w .entry)) i ⌝ }
 {
-    let b = i * 5;
+    let b = i * WORDS_PER_RANGE;
     let tag = w[b + 1];
     let version = (tag % 256) as u8;
     let protocol = (tag / 256 % 256) as u8;
@@ -175,7 +182,7 @@ pub fn put_entry(w: &mut [u64; ADDRESS_WORDS], i: usize, e: AddressEntry)
     requires { ⌜ i < maxAddresses ⌝ }
     ensures { λ _. ⌜ now (w .exit) ≡ putEntry (now (w .entry)) i e ⌝ }
 {
-    let b = i * 4;
+    let b = i * WORDS_PER_ENTRY;
     let id = e.request_id;
     w[b + 1] = id.0;
     w[b + 2] = (e.version as u64) + 256 * (e.prefix as u64);
@@ -188,7 +195,7 @@ pub fn put_range(w: &mut [u64; ROUTE_WORDS], i: usize, r: RouteRange)
     requires { ⌜ i < maxRanges ⌝ }
     ensures { λ _. ⌜ now (w .exit) ≡ putRange (now (w .entry)) i r ⌝ }
 {
-    let b = i * 5;
+    let b = i * WORDS_PER_RANGE;
     w[b + 1] = (r.version as u64) + 256 * (r.protocol as u64);
     w[b + 2] = r.start_hi;
     w[b + 3] = r.start_lo;
@@ -211,8 +218,9 @@ pub fn before_all() -> RouteRange
 }
 
 // Whether the words are a sound list of addresses: the count within the limit, and every entry sound.
-pub fn addresses_sound(w: &[u64; ADDRESS_WORDS]) -> bool
-    ensures { λ r. ⌜ r ≡ soundAddresses (now (w .entry)) ⌝ }
+pub fn addresses_sound(w: &[u64]) -> bool
+    requires { ⌜ addressWords ≤ length (now w) ⌝ }
+    ensures { λ r. ⌜ r ≡ soundAddresses (entriesOf (now (w .entry))) ⌝ }
 {
     let count = w[0];
     if (MAX_ADDRESSES as u64) < count {
@@ -231,8 +239,9 @@ pub fn addresses_sound(w: &[u64; ADDRESS_WORDS]) -> bool
 }
 
 // Whether the words are a sound list of routes: the count within the limit, every range sound, neighbours in order.
-pub fn routes_sound(w: &[u64; ROUTE_WORDS]) -> bool
-    ensures { λ r. ⌜ r ≡ soundRoutes (now (w .entry)) ⌝ }
+pub fn routes_sound(w: &[u64]) -> bool
+    requires { ⌜ routeWords ≤ length (now w) ⌝ }
+    ensures { λ r. ⌜ r ≡ soundRoutes (rangesOf (now (w .entry))) ⌝ }
 {
     let count = w[0];
     if (MAX_RANGES as u64) < count {

@@ -1,7 +1,7 @@
 -- The invariant: what the entries from i on say is the answer (`Checking`); each turn is `all-pass` or `all-fail`.
 use Prim.Native.Nat.{_-_}
 use Rattle.lists.specs.Rules.{soundEntry}
-use Rattle.lists.specs.Words.{entryAt, soundAddresses}
+use Rattle.lists.specs.Words.{entryAt, entriesOf, soundAddresses}
 use Rattle.octets.proofs.Scans as Scans
 use Rattle.lists.proofs.ListScans as List
 use Rattle.lists.proofs.Calls.{called-true, called-false}
@@ -11,19 +11,19 @@ use Rattle.lists.proofs.addresses_sound.Statement.{statement}
 use Rattle.lists.proofs.addresses_sound.Tie as tie
 
 abbrev Inv-loop : tie.InvT-loop
-Inv-loop w count n i₀ i = Scans.Checking soundEntry (entryAt w) n (soundAddresses w) i
+Inv-loop w count n i₀ i = Scans.Checking soundEntry (entryAt w) n (soundAddresses (entriesOf w)) i
 
 abbrev μ-loop : tie.MeasureT-loop
 μ-loop w count n i₀ i = n - i
 
-element-copy-out-count : tie.Need-element-copy-out-count Inv-loop μ-loop
-element-copy-out-count c = search needs
+shared-slice-read-count : tie.Need-shared-slice-read-count Inv-loop μ-loop
+shared-slice-read-count c = search needs
 
 returns : tie.Need-returns Inv-loop μ-loop
-returns c = List.check-entries-over (c .before .before .args .w .now) (omega arith)
+returns c = List.check-entries-over (c .before .before .before .args .w .now) (omega arith)
 
 loop-holds : tie.Need-loop-holds Inv-loop μ-loop
-loop-holds c = List.check-entries (c .before .before .args .w .now) (omega arith)
+loop-holds c = List.check-entries (c .before .before .before .args .w .now) (omega arith)
 
 entry-at-requires : tie.Need-entry-at-requires Inv-loop μ-loop
 entry-at-requires c κs = search needs
@@ -58,7 +58,7 @@ addresses-sound-spec =
     (tie.spec
     Inv-loop
     μ-loop
-    element-copy-out-count
+    shared-slice-read-count
     returns
     loop-holds
     entry-at-requires

@@ -1,4 +1,4 @@
--- Each index is below 65 since i is below 16, and the four words are those that `entryAt` reads.
+-- Each index is within the words of a list since i is below the limit, and the four words are those that `entryAt` reads.
 use mathlib.Core.Path.{refl}
 use Rattle.lists.specs.Words.{entryAt}
 use borrow.Author.Needs.{needs}
@@ -14,8 +14,8 @@ add-tag c = search needs
 mul-tag : tie.Need-mul-tag
 mul-tag c = search needs
 
-element-copy-out-tag : tie.Need-element-copy-out-tag
-element-copy-out-tag c = search needs
+shared-slice-read-tag : tie.Need-shared-slice-read-tag
+shared-slice-read-tag c = search needs
 
 add-tag-2 : tie.Need-add-tag-2
 add-tag-2 c = search needs
@@ -23,8 +23,8 @@ add-tag-2 c = search needs
 mul-tag-2 : tie.Need-mul-tag-2
 mul-tag-2 c = search needs
 
-element-copy-out-tag-2 : tie.Need-element-copy-out-tag-2
-element-copy-out-tag-2 c = search needs
+shared-slice-read-tag-2 : tie.Need-shared-slice-read-tag-2
+shared-slice-read-tag-2 c = search needs
 
 cast-version : tie.Need-cast-version
 cast-version c = search needs
@@ -38,8 +38,8 @@ add-hi c = search needs
 mul-hi : tie.Need-mul-hi
 mul-hi c = search needs
 
-element-copy-out-hi : tie.Need-element-copy-out-hi
-element-copy-out-hi c = search needs
+shared-slice-read-hi : tie.Need-shared-slice-read-hi
+shared-slice-read-hi c = search needs
 
 add-lo : tie.Need-add-lo
 add-lo c = search needs
@@ -47,8 +47,8 @@ add-lo c = search needs
 mul-lo : tie.Need-mul-lo
 mul-lo c = search needs
 
-element-copy-out-lo : tie.Need-element-copy-out-lo
-element-copy-out-lo c = search needs
+shared-slice-read-lo : tie.Need-shared-slice-read-lo
+shared-slice-read-lo c = search needs
 
 returns : tie.Need-returns
 unfolding entryAt
@@ -61,16 +61,16 @@ entry-at-spec =
     mul-b
     add-tag
     mul-tag
-    element-copy-out-tag
+    shared-slice-read-tag
     add-tag-2
     mul-tag-2
-    element-copy-out-tag-2
+    shared-slice-read-tag-2
     cast-version
     cast-prefix
     add-hi
     mul-hi
-    element-copy-out-hi
+    shared-slice-read-hi
     add-lo
     mul-lo
-    element-copy-out-lo
+    shared-slice-read-lo
     returns)

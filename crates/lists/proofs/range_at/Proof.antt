@@ -1,4 +1,4 @@
--- Each index is below 321 since i is below 64, and the five words are those that `rangeAt` reads.
+-- Each index is within the words of a list since i is below the limit, and the five words are those that `rangeAt` reads.
 use mathlib.Core.Path.{refl}
 use Rattle.lists.specs.Words.{rangeAt}
 use borrow.Author.Needs.{needs}
@@ -14,8 +14,8 @@ add-tag c = search needs
 mul-tag : tie.Need-mul-tag
 mul-tag c = search needs
 
-element-copy-out-tag : tie.Need-element-copy-out-tag
-element-copy-out-tag c = search needs
+shared-slice-read-tag : tie.Need-shared-slice-read-tag
+shared-slice-read-tag c = search needs
 
 cast-version : tie.Need-cast-version
 cast-version c = search needs
@@ -29,8 +29,8 @@ add-start-hi c = search needs
 mul-start-hi : tie.Need-mul-start-hi
 mul-start-hi c = search needs
 
-element-copy-out-start-hi : tie.Need-element-copy-out-start-hi
-element-copy-out-start-hi c = search needs
+shared-slice-read-start-hi : tie.Need-shared-slice-read-start-hi
+shared-slice-read-start-hi c = search needs
 
 add-start-lo : tie.Need-add-start-lo
 add-start-lo c = search needs
@@ -38,8 +38,8 @@ add-start-lo c = search needs
 mul-start-lo : tie.Need-mul-start-lo
 mul-start-lo c = search needs
 
-element-copy-out-start-lo : tie.Need-element-copy-out-start-lo
-element-copy-out-start-lo c = search needs
+shared-slice-read-start-lo : tie.Need-shared-slice-read-start-lo
+shared-slice-read-start-lo c = search needs
 
 add-end-hi : tie.Need-add-end-hi
 add-end-hi c = search needs
@@ -47,8 +47,8 @@ add-end-hi c = search needs
 mul-end-hi : tie.Need-mul-end-hi
 mul-end-hi c = search needs
 
-element-copy-out-end-hi : tie.Need-element-copy-out-end-hi
-element-copy-out-end-hi c = search needs
+shared-slice-read-end-hi : tie.Need-shared-slice-read-end-hi
+shared-slice-read-end-hi c = search needs
 
 add-end-lo : tie.Need-add-end-lo
 add-end-lo c = search needs
@@ -56,8 +56,8 @@ add-end-lo c = search needs
 mul-end-lo : tie.Need-mul-end-lo
 mul-end-lo c = search needs
 
-element-copy-out-end-lo : tie.Need-element-copy-out-end-lo
-element-copy-out-end-lo c = search needs
+shared-slice-read-end-lo : tie.Need-shared-slice-read-end-lo
+shared-slice-read-end-lo c = search needs
 
 returns : tie.Need-returns
 unfolding rangeAt
@@ -70,19 +70,19 @@ range-at-spec =
     mul-b
     add-tag
     mul-tag
-    element-copy-out-tag
+    shared-slice-read-tag
     cast-version
     cast-protocol
     add-start-hi
     mul-start-hi
-    element-copy-out-start-hi
+    shared-slice-read-start-hi
     add-start-lo
     mul-start-lo
-    element-copy-out-start-lo
+    shared-slice-read-start-lo
     add-end-hi
     mul-end-hi
-    element-copy-out-end-hi
+    shared-slice-read-end-hi
     add-end-lo
     mul-end-lo
-    element-copy-out-end-lo
+    shared-slice-read-end-lo
     returns)

@@ -13,17 +13,17 @@ Inv-loop w count n last₀ i₀ last i = List.Judging w n last i
 abbrev μ-loop : tie.MeasureT-loop
 μ-loop w count n last₀ i₀ last i = n - i
 
-element-copy-out-count : tie.Need-element-copy-out-count Inv-loop μ-loop
-element-copy-out-count c = search needs
+shared-slice-read-count : tie.Need-shared-slice-read-count Inv-loop μ-loop
+shared-slice-read-count c = search needs
 
 returns : tie.Need-returns Inv-loop μ-loop
-returns c = List.judge-over (c .before .before .args .w .now) (omega arith)
+returns c = List.judge-over (c .before .before .before .args .w .now) (omega arith)
 
 before-all-requires : tie.Need-before-all-requires Inv-loop μ-loop
 before-all-requires c κs = search needs
 
 loop-holds : tie.Need-loop-holds Inv-loop μ-loop
-loop-holds c = List.judge (c .before .before .before .args .w .now) (c .before-all .ensures) (omega arith)
+loop-holds c = List.judge (c .before .before .before .before .args .w .now) (c .before-all .ensures) (omega arith)
 
 range-at-requires : tie.Need-range-at-requires Inv-loop μ-loop
 range-at-requires c κs = search needs
@@ -69,7 +69,7 @@ routes-sound-spec =
     (tie.spec
     Inv-loop
     μ-loop
-    element-copy-out-count
+    shared-slice-read-count
     returns
     before-all-requires
     loop-holds
