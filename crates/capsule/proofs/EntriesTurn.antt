@@ -18,7 +18,7 @@ use Rattle.lists.specs.Words.{maxAddresses, entryWords, putEntry, packEntries}
 use Rattle.lists.proofs.Packing as Packing
 use Rattle.capsule.specs.declared.element.EntryRead.the-variants.{Good, Bad}
 use Rattle.capsule.specs.declared.list.EntriesRead.{EntriesRead}
-use Rattle.capsule.specs.Capsules.{maxValue}
+use Rattle.capsule.specs.Capsules.{maxValue, minEntry, maxEntries}
 use Rattle.capsule.specs.Elements.{Parsed, fault, elementsIn}
 use Rattle.capsule.specs.Entries.{readEntry, entryElement, entryFollows, entryFormat}
 use Rattle.capsule.specs.Results.{entriesResult}
@@ -61,11 +61,11 @@ pub record Reading (request : Bool) (s words ids : List ℕ) (count at : ℕ) : 
   pub reading : T.Reading (entryFormat request) request maxAddresses s es earlier at
   pub counted : count ≡ length es
   pub stored : words ≡ 0 ∷ entryWords maxAddresses es
-  pub behind : 7 * count ≤ at
-  pub room : length ids ≡ 585
+  pub behind : minEntry * count ≤ at
+  pub room : length ids ≡ maxEntries
   pub seen : (id : ℕ) → anyOf (λ d. eqb (idOf d) id) earlier ≡ anyOf (λ d. eqb d id) (take count ids)
 
-pub start : (request : Bool) (s : List ℕ) → Reading request s (0 ∷ entryWords maxAddresses []) (replicate 585 0) 0 0
+pub start : (request : Bool) (s : List ℕ) → Reading request s (0 ∷ entryWords maxAddresses []) (replicate maxEntries 0) 0 0
 start request s =
     record {
       es = [];
@@ -89,7 +89,7 @@ module _ {request : Bool} {s words ids : List ℕ} {count at : ℕ} (i : Reading
 
   module _ (g : at < length s) where
     module _ (e : AddressEntry) (n : ℕ) (q : readEntry (drop at s) ≡ Good e n) where
-      pub id-room : length s ≤ maxValue → count < 585
+      pub id-room : length s ≤ maxValue → count < maxEntries
       id-room h = let z = Entry.size (drop at s) e n q in omega (arith, i .behind, z .0, z .1, length-drop at s)
 
       -- whatever the words are, so long as they hold the entries

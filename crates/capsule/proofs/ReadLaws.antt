@@ -4,10 +4,12 @@ use mathlib.Core.Bool.{Bool, true, false}
 use mathlib.Core.Path.{_≡_, refl, sym, _∙_}
 use mathlib.Core.List.{List, [], _∷_, _++_}
 use native.Mathlib.Omega.{arith}
+use lib.Dec.{ltb}
 use lib.ListN.{length, take, drop, length-take, length-drop}
 use lib.Seq.{take-append-le, drop-append-le}
-use Rattle.answer.specs.declared.Refusal.the-variants.{Incomplete, RangesOutOfOrder}
+use Rattle.answer.specs.declared.Refusal.the-variants.{Incomplete, TooLong, RangesOutOfOrder}
 use Rattle.answer.specs.declared.Verdict.the-variants.{Go}
+use Rattle.answer.specs.Choice.{pick}
 use Rattle.varint.proofs.Reading as Number
 use Rattle.octets.specs.Big.{Bytes}
 use Rattle.octets.proofs.BigLaws as Big
@@ -15,14 +17,15 @@ use Rattle.lists.specs.declared.AddressEntry.{AddressEntry}
 use Rattle.lists.specs.declared.RouteRange.{RouteRange}
 use Rattle.octets.specs.Scan.{allOf}
 use Rattle.lists.specs.Rules.{soundEntry, inOrder, beforeAll, soundAfter}
-use Rattle.lists.specs.Words.{maxAddresses, maxRanges, soundAddresses, soundRoutes, packEntries, packRanges}
+use Rattle.lists.specs.Words.{maxAddresses, maxRanges, entriesOf, rangesOf, soundAddresses, soundRoutes, packEntries, packRanges}
+use Rattle.lists.proofs.ListScans.{facts-addresses, facts-routes}
 use Rattle.lists.proofs.Views as Views
 use Rattle.capsule.specs.declared.FrameRead.{FrameRead}
-use Rattle.capsule.specs.Elements.{judged}
+use Rattle.capsule.specs.Elements.{Parsed, elementsOf, judged, fault, all}
 use Rattle.capsule.specs.Entries.{entryFormat, rangeFormat, rangeFollows, newest}
-use Rattle.capsule.specs.Capsules.{maxValue, Capsule, Reading, refused, capsule, inFrame, frameOf, readCapsule}
-use Rattle.capsule.specs.Results.{resultAt, readAt}
-use Rattle.capsule.specs.Sound.{Ruled, Sound, sound-datagram, sound-assign, sound-request, sound-advertise, sound-unknown, inWords}
+use Rattle.capsule.specs.Capsules.{maxValue, Capsule, entriesIn, rangesIn, Reading, refused, capsule, inFrame, frameOf, readCapsule}
+use Rattle.capsule.specs.Results.{entriesResult, rangesResult}
+use Rattle.capsule.specs.Sound.{Ruled, Sound, sound-datagram, sound-assign, sound-request, sound-advertise, sound-unknown, entryInWords, rangeInWords, inWords}
 use Rattle.capsule.proofs.FrameCases as Frame
 use Rattle.capsule.proofs.Parsing as Parsing
 use Rattle.capsule.proofs.EntryBytes.{entries-lawful}
@@ -91,33 +94,75 @@ module _ (asked : Bool) (es : List AddressEntry) (r : Ruled (entryFormat asked) 
   pub entries-sound : (allOf soundEntry es ≡ true) × (length es ≤ maxAddresses)
   entries-sound = (judged-entries asked [] es (r .elements), Parsing.ruled-within r)
 
-  pub addresses-sound : soundAddresses (packEntries es) ≡ true
-  addresses-sound = Views.sound-pack-entries es (entries-sound .1) (entries-sound .0)
+  pub addresses-sound : soundAddresses es ≡ true
+  addresses-sound = facts-addresses es (entries-sound .1) (entries-sound .0)
+
+  -- the words hold the same entries
+  pub entries-packed : entriesOf (packEntries es) ≡ es
+  entries-packed = Views.entries-pack es (entries-sound .1) (entries-sound .0)
 
 module _ (rs : List RouteRange) (r : Ruled rangeFormat false maxRanges rs) where
   pub ranges-sound : (soundAfter beforeAll rs ≡ true) × (length rs ≤ maxRanges)
   ranges-sound = (judged-ranges [] rs (r .elements), Parsing.ruled-within r)
 
-  pub routes-sound : soundRoutes (packRanges rs) ≡ true
-  routes-sound = Views.sound-pack-ranges rs (ranges-sound .1) (ranges-sound .0)
+  pub routes-sound : soundRoutes rs ≡ true
+  routes-sound = facts-routes rs (ranges-sound .1) (ranges-sound .0)
 
--- whatever the bytes, the lists that are handed back are sound
-module _ (s : List ℕ) (at : ℕ) where
-  handed-sound : (c : Capsule) (start size : ℕ) → Sound c
-      → (soundAddresses (resultAt at (capsule c start size) .addresses .words) ≡ true) × (soundRoutes (resultAt at (capsule c start size) .routes .words) ≡ true)
-  handed-sound c start size (sound-datagram h) = (Views.sound-none-entries, Views.sound-none-ranges)
-  handed-sound c start size (sound-assign {es} r) = (addresses-sound false es r, Views.sound-none-ranges)
-  handed-sound c start size (sound-request {es} r) = (addresses-sound true es r, Views.sound-none-ranges)
-  handed-sound c start size (sound-advertise {rs} r) = (Views.sound-none-entries, routes-sound rs r)
-  handed-sound c start size sound-unknown = (Views.sound-none-entries, Views.sound-none-ranges)
+  pub ranges-packed : rangesOf (packRanges rs) ≡ rs
+  ranges-packed = Views.ranges-pack beforeAll rs (ranges-sound .1) (ranges-sound .0)
 
-  pub lists-sound : (soundAddresses (readAt s at .addresses .words) ≡ true) × (soundRoutes (readAt s at .routes .words) ≡ true)
-  unfolding readAt
-  lists-sound = of (readCapsule (drop at s)) refl
-    where
-      of : (r : Reading) → readCapsule (drop at s) ≡ r → (soundAddresses (resultAt at r .addresses .words) ≡ true) × (soundRoutes (resultAt at r .routes .words) ≡ true)
-      of (refused r) e = (Views.sound-none-entries, Views.sound-none-ranges)
-      of (capsule c start size) e = handed-sound c start size (read-sound (drop at s) c start size e)
+-- whatever the bytes, the list of a value is sound
+within-limit : {A : Type 0} (b : Bool) (p : Parsed A) (xs : List A) → pick b (fault TooLong) p ≡ all xs → p ≡ all xs
+within-limit true p xs e = let z : _≡_ {A = ℕ} 0 1 = cc in absurd (omega arith)
+within-limit false p xs e = e
+
+module _ (v : List ℕ) where
+  module _ (asked : Bool) (es : List AddressEntry) (e : entriesIn asked v ≡ all es) where
+    pub entries-ruled : Ruled (entryFormat asked) asked maxAddresses es
+    unfolding entriesIn
+    entries-ruled = Parsing.read-ruled (entries-lawful asked) asked maxAddresses v es (within-limit (ltb maxValue (length v)) _ es e)
+
+    pub entries-in-words : Bytes v → allOf entryInWords es ≡ true
+    unfolding entriesIn
+    entries-in-words h = Parsing.read-words (entries-lawful asked) asked maxAddresses v es h (within-limit (ltb maxValue (length v)) _ es e)
+
+  module _ (rs : List RouteRange) (e : rangesIn v ≡ all rs) where
+    pub ranges-ruled : Ruled rangeFormat false maxRanges rs
+    unfolding rangesIn
+    ranges-ruled = Parsing.read-ruled ranges-lawful false maxRanges v rs (within-limit (ltb maxValue (length v)) _ rs e)
+
+    pub ranges-in-words : Bytes v → allOf rangeInWords rs ≡ true
+    unfolding rangesIn
+    ranges-in-words h = Parsing.read-words ranges-lawful false maxRanges v rs h (within-limit (ltb maxValue (length v)) _ rs e)
+
+-- the list that is handed back holds what was read and is sound: with a refusal it is empty
+module _ (v : List ℕ) where
+  entries-handed : (asked : Bool) (p : Parsed AddressEntry) → entriesIn asked v ≡ p → entriesOf (entriesResult p .list .words) ≡ elementsOf p
+  entries-handed asked (fault r) e = Views.entries-none
+  entries-handed asked (all es) e = entries-packed asked es (entries-ruled v asked es e)
+
+  entries-good : (asked : Bool) (p : Parsed AddressEntry) → entriesIn asked v ≡ p → soundAddresses (elementsOf p) ≡ true
+  unfolding soundAddresses
+  entries-good asked (fault r) e = refl
+  entries-good asked (all es) e = addresses-sound asked es (entries-ruled v asked es e)
+
+  ranges-handed : (p : Parsed RouteRange) → rangesIn v ≡ p → rangesOf (rangesResult p .list .words) ≡ elementsOf p
+  ranges-handed (fault r) e = Views.ranges-none
+  ranges-handed (all rs) e = ranges-packed rs (ranges-ruled v rs e)
+
+  ranges-good : (p : Parsed RouteRange) → rangesIn v ≡ p → soundRoutes (elementsOf p) ≡ true
+  unfolding soundRoutes
+  ranges-good (fault r) e = refl
+  ranges-good (all rs) e = routes-sound rs (ranges-ruled v rs e)
+
+  pub entries-held : (asked : Bool) → entriesOf (entriesResult (entriesIn asked v) .list .words) ≡ elementsOf (entriesIn asked v)
+  entries-held asked = entries-handed asked (entriesIn asked v) refl
+
+  pub ranges-held : rangesOf (rangesResult (rangesIn v) .list .words) ≡ elementsOf (rangesIn v)
+  ranges-held = ranges-handed (rangesIn v) refl
+
+  pub lists-sound : ((asked : Bool) → soundAddresses (elementsOf (entriesIn asked v)) ≡ true) × (soundRoutes (elementsOf (rangesIn v)) ≡ true)
+  lists-sound = (λ asked. entries-good asked (entriesIn asked v) refl, ranges-good (rangesIn v) refl)
 
 -- ---- bytes appended
 module _ (s t : List ℕ) where

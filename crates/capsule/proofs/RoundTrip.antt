@@ -21,7 +21,7 @@ use Rattle.lists.specs.Words.{maxAddresses, maxRanges}
 use Rattle.capsule.specs.Elements.{written}
 use Rattle.capsule.specs.Entries.{entryFormat, rangeFormat}
 use Rattle.capsule.specs.Capsules.{maxValue, Capsule, datagram, assign, request, advertise, unknown, capsule, readValue, frameOf, readCapsule, frameBytes, capsuleBytes}
-use Rattle.capsule.specs.Sound.{valueOf, startOf, Ruled, Sound, sound-datagram, sound-assign, sound-request, sound-advertise, sound-unknown, inWords}
+use Rattle.capsule.specs.Sound.{valueOf, valueStart, Ruled, Sound, sound-datagram, sound-assign, sound-request, sound-advertise, sound-unknown, inWords}
 use Rattle.capsule.specs.Shortest.{shortestFront, behindNumber, everyElement, shortestIds, shortestValue, shortestCapsule}
 use Rattle.capsule.proofs.FrameCases as Frame
 use Rattle.capsule.proofs.Parsing as Parsing
@@ -97,7 +97,7 @@ value-within c sound-unknown = omega arith
 
 -- a capsule that keeps the rules, written and then read
 pub read-written : (c : Capsule) (rest : List ℕ) → Sound c → inWords c ≡ true → (c ≡ unknown → ⊥)
-    → readCapsule (capsuleBytes c ++ rest) ≡ capsule c (startOf c) (length (capsuleBytes c))
+    → readCapsule (capsuleBytes c ++ rest) ≡ capsule c (valueStart c) (length (capsuleBytes c))
 unfolding capsuleBytes
 read-written c rest (sound-datagram {v} h) w k = read-frame 0 v rest (omega arith) h (datagram v) (value-datagram _ v)
 read-written c rest (sound-assign {es} r) w k =
@@ -107,6 +107,15 @@ read-written c rest (sound-request {es} r) w k =
 read-written c rest (sound-advertise {rs} r) w k =
     read-frame 3 (written rangeFormat rs) rest (omega arith) (value-within c (sound-advertise r)) (advertise rs) (value-advertise _ rs r w)
 read-written c rest sound-unknown w k = absurd (k refl)
+
+-- it is as long as type, length and value
+pub length-capsule : (c : Capsule) → Sound c → (c ≡ unknown → ⊥) → valueStart c + length (valueOf c) ≡ length (capsuleBytes c)
+unfolding capsuleBytes
+length-capsule c (sound-datagram {v} h) k = sym (length-frame 0 v [] (omega arith) h)
+length-capsule c (sound-assign {es} r) k = sym (length-frame 1 (written (entryFormat false) es) [] (omega arith) (value-within c (sound-assign r)))
+length-capsule c (sound-request {es} r) k = sym (length-frame 2 (written (entryFormat true) es) [] (omega arith) (value-within c (sound-request r)))
+length-capsule c (sound-advertise {rs} r) k = sym (length-frame 3 (written rangeFormat rs) [] (omega arith) (value-within c (sound-advertise r)))
+length-capsule c sound-unknown k = absurd (k refl)
 
 -- its type takes one byte, and its length two at most
 length-most : (kind : ℕ) (v : List ℕ) → kind ≤ 3 → length v ≤ maxValue → length (frameBytes kind v) ≤ 3 + maxValue

@@ -1,122 +1,242 @@
--- What reading hands back, by the code's cases: of a list's value, of any value, and of a place of a buffer. Assumes nothing.
-use Prim.Native.Nat.{ℕ, _+_, _-_, _^_, _≤_, _<_}
+-- What reading hands back, by the code's cases: of a frame, of a list's value, and of a place of a buffer. Assumes nothing.
+use Prim.Native.Nat.{ℕ, zero, suc, _+_, _-_, _≤_, _<_, min}
 use mathlib.Core.Bool.{Bool, true, false}
-use mathlib.Core.Path.{_≡_, refl}
+use mathlib.Core.Path.{_≡_, refl, sym, ap, _∙_}
 use mathlib.Core.List.{List}
-use native.Mathlib.Nat.{add-assoc}
+use mathlib.Core.Logic.{⊎-elim}
 use native.Mathlib.Omega.{arith}
-use borrow.Author.Tests.{ne-eqb}
+use borrow.Author.Tests.{ne-eqb, le-ltb, lt-ltb}
+use lib.Dec.{eqb}
 use lib.ListN.{length, take, drop, drop-of-length-le, length-take, length-drop}
-use Rattle.octets.proofs.Parts as Parts
+use lib.Seq.{drop-drop}
 use Rattle.answer.specs.declared.Refusal.{Refusal}
-use Rattle.answer.specs.declared.Refusal.the-variants.{Incomplete}
+use Rattle.answer.specs.declared.Refusal.the-variants.{Incomplete, TooLong}
+use Rattle.answer.specs.declared.Verdict.{Verdict}
 use Rattle.answer.specs.declared.Verdict.the-variants.{Go, Stop}
-use Rattle.answer.specs.Choice.{pick}
+use Rattle.answer.proofs.Tests.{order}
 use Rattle.varint.specs.Numbers.{readNumber}
+use Rattle.varint.proofs.Reading as Number
 use Rattle.lists.specs.declared.AddressEntry.{AddressEntry}
 use Rattle.lists.specs.declared.RouteRange.{RouteRange}
-use Rattle.lists.specs.declared.RouteList.{RouteList}
-use Rattle.lists.specs.declared.AddressList.{AddressList}
-use Rattle.lists.specs.Words.{noAddresses, noRoutes, maxAddresses, maxRanges}
-use Rattle.capsule.specs.declared.Outcome.the-variants.{Datagram, Assigned, Requested, Advertised, Skipped, Refused}
+use Rattle.lists.specs.Words.{maxAddresses, maxRanges}
 use Rattle.capsule.specs.declared.CapsuleRead.{CapsuleRead}
+use Rattle.capsule.specs.declared.FrameRead.{FrameRead}
 use Rattle.capsule.specs.declared.FrameRead.the-variants.{Value}
 use Rattle.capsule.specs.declared.FrameRead.the-variants as Frame
 use Rattle.capsule.specs.declared.list.EntriesRead.{EntriesRead}
 use Rattle.capsule.specs.declared.list.RangesRead.{RangesRead}
-use Rattle.capsule.specs.Elements.{Parsed, fault, all, elementsIn}
+use Rattle.capsule.specs.Elements.{Parsed, fault, all, parsedVerdict, elementsIn}
 use Rattle.capsule.specs.Entries.{entryFormat, rangeFormat}
-use Rattle.capsule.specs.Capsules.{assign, request, advertise, listed, readValue, frameOf, readCapsule}
-use Rattle.capsule.specs.Results.{alone, entriesResult, rangesResult, addressResult, routeResult, resultAt, readAt, ValueAt}
-use Rattle.capsule.proofs.FrameCases.{Framed}
+use Rattle.capsule.specs.Capsules.{maxValue, Capsule, kindOf, assign, request, advertise, entriesIn, rangesIn, listed, refused, readValue, inFrame, frameOf, readCapsule}
+use Rattle.capsule.specs.Results.{judgedAt, otherKind, refusedAt, foundAt, entriesResult, rangesResult, resultAt, readAt, frameResult, frameIn, valueVerdict}
+use Rattle.capsule.proofs.FrameCases.{Framed, frame-facts, framed-frame}
 
--- ---- the value of types 1 and 2, and of type 3
-module _ (asked : Bool) (next : ℕ) where
-  pub addresses-taken : (p : Parsed AddressEntry) (found : EntriesRead) (routes : RouteList) (b : Bool) → asked ≡ b → found ≡ entriesResult p → routes ≡ noRoutes → found .verdict ≡ Go
-      → _≡_ {A = CapsuleRead} (record { outcome = pick b (Requested next) (Assigned next); addresses = found .list; routes = routes }) (addressResult asked next p)
-  addresses-taken (fault r) found routes b t e n g = let z : _≡_ {A = ℕ} 0 1 = cc in absurd (omega arith)
-  addresses-taken (all es) found routes b t e n g = rw (e, n, t)
+-- ---- a list, by the length of its value
+module _ (asked : Bool) (v : List ℕ) where
+  pub entries-long : maxValue < length v → entriesResult (fault TooLong) ≡ entriesResult (entriesIn asked v)
+  unfolding entriesIn
+  entries-long h = rw (lt-ltb maxValue (length v) h)
 
-  pub addresses-refused : (p : Parsed AddressEntry) (found : EntriesRead) (r : Refusal) → found ≡ entriesResult p → found .verdict ≡ Stop r
-      → alone (Refused r) ≡ addressResult asked next p
-  addresses-refused (fault q) found r e g = let z : r ≡ q = cc in rw z
-  addresses-refused (all es) found r e g = let z : _≡_ {A = ℕ} 0 1 = cc in absurd (omega arith)
+  pub entries-short : length v ≤ maxValue → elementsIn (entryFormat asked) asked maxAddresses v ≡ entriesIn asked v
+  unfolding entriesIn
+  entries-short h = rw (le-ltb maxValue (length v) h)
 
-module _ (next : ℕ) where
-  pub routes-taken : (p : Parsed RouteRange) (found : RangesRead) (addresses : AddressList) → found ≡ rangesResult p → addresses ≡ noAddresses → found .verdict ≡ Go
-      → _≡_ {A = CapsuleRead} (record { outcome = Advertised next; addresses = addresses; routes = found .list }) (routeResult next p)
-  routes-taken (fault r) found addresses e n g = let z : _≡_ {A = ℕ} 0 1 = cc in absurd (omega arith)
-  routes-taken (all es) found addresses e n g = rw (e, n)
+module _ (v : List ℕ) where
+  pub ranges-long : maxValue < length v → rangesResult (fault TooLong) ≡ rangesResult (rangesIn v)
+  unfolding rangesIn
+  ranges-long h = rw (lt-ltb maxValue (length v) h)
 
-  pub routes-refused : (p : Parsed RouteRange) (found : RangesRead) (r : Refusal) → found ≡ rangesResult p → found .verdict ≡ Stop r
-      → alone (Refused r) ≡ routeResult next p
-  routes-refused (fault q) found r e g = let z : r ≡ q = cc in rw z
-  routes-refused (all es) found r e g = let z : _≡_ {A = ℕ} 0 1 = cc in absurd (omega arith)
+  pub ranges-short : length v ≤ maxValue → elementsIn rangeFormat false maxRanges v ≡ rangesIn v
+  unfolding rangesIn
+  ranges-short h = rw (le-ltb maxValue (length v) h)
 
--- ---- a value, by its type
-module _ (at start n : ℕ) where
-  assigned : (p : Parsed AddressEntry) → addressResult false (at + start + n) p ≡ resultAt at (listed assign start (start + n) p)
-  assigned (fault r) = refl
-  assigned (all es) = rw add-assoc
+pub entries-verdict : (p : Parsed AddressEntry) → entriesResult p .verdict ≡ parsedVerdict p
+entries-verdict (fault r) = refl
+entries-verdict (all es) = refl
 
-  requested : (p : Parsed AddressEntry) → addressResult true (at + start + n) p ≡ resultAt at (listed request start (start + n) p)
-  requested (fault r) = refl
-  requested (all es) = rw add-assoc
+pub ranges-verdict : (p : Parsed RouteRange) → rangesResult p .verdict ≡ parsedVerdict p
+ranges-verdict (fault r) = refl
+ranges-verdict (all rs) = refl
 
-  advertised : (p : Parsed RouteRange) → routeResult (at + start + n) p ≡ resultAt at (listed advertise start (start + n) p)
-  advertised (fault r) = refl
-  advertised (all rs) = rw add-assoc
+-- ---- the verdict of a value, by its kind
+module _ (kind : ℕ) (v : List ℕ) where
+  pub assign-verdict : (r : EntriesRead) → kind ≡ 1 → r ≡ entriesResult (entriesIn false v) → r .verdict ≡ valueVerdict kind v
+  unfolding valueVerdict
+  assign-verdict r k e = rw (k, e) (entries-verdict (entriesIn false v))
 
-module _ (kind : ℕ) (v : List ℕ) (at start : ℕ) where
-  pub datagram-value : kind ≡ 0 → alone (Datagram (at + start) (length v) (at + start + length v)) ≡ resultAt at (readValue kind v start)
-  unfolding readValue
-  datagram-value e = rw (e, add-assoc)
+  pub request-verdict : (r : EntriesRead) → kind ≡ 2 → r ≡ entriesResult (entriesIn true v) → r .verdict ≡ valueVerdict kind v
+  unfolding valueVerdict
+  request-verdict r k e = rw (k, e) (entries-verdict (entriesIn true v))
 
-  pub assign-value : kind ≡ 1
-      → addressResult false (at + start + length v) (elementsIn (entryFormat false) false maxAddresses v) ≡ resultAt at (readValue kind v start)
-  unfolding readValue
-  assign-value e = rw e (assigned at start (length v) (elementsIn (entryFormat false) false maxAddresses v))
+  pub advertise-verdict : (r : RangesRead) → kind ≡ 3 → r ≡ rangesResult (rangesIn v) → r .verdict ≡ valueVerdict kind v
+  unfolding valueVerdict
+  advertise-verdict r k e = rw (k, e) (ranges-verdict (rangesIn v))
 
-  pub request-value : kind ≡ 2
-      → addressResult true (at + start + length v) (elementsIn (entryFormat true) true maxAddresses v) ≡ resultAt at (readValue kind v start)
-  unfolding readValue
-  request-value e = rw e (requested at start (length v) (elementsIn (entryFormat true) true maxAddresses v))
+  pub no-list-verdict : (kind ≡ 1 → ⊥) → (kind ≡ 2 → ⊥) → (kind ≡ 3 → ⊥) → Go ≡ valueVerdict kind v
+  unfolding valueVerdict
+  no-list-verdict a b c = rw (ne-eqb kind 1 a, ne-eqb kind 2 b, ne-eqb kind 3 c)
 
-  pub advertise-value : kind ≡ 3
-      → routeResult (at + start + length v) (elementsIn rangeFormat false maxRanges v) ≡ resultAt at (readValue kind v start)
-  unfolding readValue
-  advertise-value e = rw e (advertised at start (length v) (elementsIn rangeFormat false maxRanges v))
-
-  pub other-value : (kind ≡ 0 → ⊥) → (kind ≡ 1 → ⊥) → (kind ≡ 2 → ⊥) → (kind ≡ 3 → ⊥)
-      → alone (Skipped (at + start + length v)) ≡ resultAt at (readValue kind v start)
-  unfolding readValue
-  other-value a b c d = rw (ne-eqb kind 0 a, ne-eqb kind 1 b, ne-eqb kind 2 c, ne-eqb kind 3 d, add-assoc)
-
--- ---- a place of a buffer
+-- ---- a frame at a place of a buffer
 module _ (s : List ℕ) (at : ℕ) where
-  pub past-end : length s < at → alone (Refused Incomplete) ≡ readAt s at
-  unfolding readAt readCapsule frameOf readNumber
+  pub past-end : length s < at → refusedAt at Incomplete ≡ frameIn s at
+  unfolding frameIn frameOf readNumber
   past-end h = let l : length s ≤ at = omega arith in rw (drop-of-length-le s l)
 
-  -- the value of a frame, as the code cuts it
-  value-part : (start size : ℕ) → take (start + size - start) (drop start (take (length s - at) (drop at s))) ≡ take size (drop start (drop at s))
-  value-part start size = let z : start + size - start ≡ size = omega arith in rw (Parts.tail at s, z)
+  pub whole-frame : (kind start size k : ℕ) → frameOf (drop at s) ≡ Value kind start size → k ≡ min kind otherKind
+      → foundAt at k start size ≡ frameIn s at
+  unfolding frameIn
+  whole-frame kind start size k e f = rw (e, f)
 
-  pub value-at : (kind start size : ℕ) → Framed (drop at s) kind start size → at ≤ length s → length s < 2 ^ 64
-      → ValueAt kind (take (start + size - start) (drop start (take (length s - at) (drop at s)))) at start
-  value-at kind start size f h g =
-      let l : length (take size (drop start (drop at s))) ≤ size = simp length-take (omega arith) in
-      rw (value-part start size)
-      (record {
-        within = omega (arith, f .there, length-drop at s);
-        short = λ k. omega (arith, f .short k);
-      })
-
-  pub framed : (kind start size : ℕ) → frameOf (drop at s) ≡ Value kind start size
-      → resultAt at (readValue kind (take (start + size - start) (drop start (take (length s - at) (drop at s)))) start) ≡ readAt s at
-  unfolding readAt readCapsule
-  framed kind start size e = rw (value-part start size, e)
-
-  pub refused-frame : (r : Refusal) → frameOf (drop at s) ≡ Frame.Refused r → alone (Refused r) ≡ readAt s at
-  unfolding readAt readCapsule
+  pub refused-frame : (r : Refusal) → frameOf (drop at s) ≡ Frame.Refused r → refusedAt at r ≡ frameIn s at
+  unfolding frameIn
   refused-frame r e = rw e
+
+-- ---- a value, by its kind
+
+-- any type but 0 to 3 is read as the other kind
+pub kind-value : (kind : ℕ) (v : List ℕ) (start : ℕ) → readValue kind v start ≡ readValue (min kind otherKind) v start
+unfolding readValue
+kind-value kind v start = ⊎-elim few many (order kind otherKind)
+  where
+    few : kind < otherKind → readValue kind v start ≡ readValue (min kind otherKind) v start
+    few h = let e : min kind otherKind ≡ kind = omega arith in rw e refl
+
+    many : otherKind ≤ kind → readValue kind v start ≡ readValue (min kind otherKind) v start
+    many h =
+        let e : min kind otherKind ≡ otherKind = omega arith in
+        rw (e, ne-eqb kind 0 (λ q. omega arith), ne-eqb kind 1 (λ q. omega arith), ne-eqb kind 2 (λ q. omega arith), ne-eqb kind 3 (λ q. omega arith))
+
+module _ (at start n : ℕ) where
+  found-size : (kind : ℕ) → foundAt at kind start (start + n - start) ≡ foundAt at kind start n
+  found-size kind = let z : start + n - start ≡ n = omega arith in rw z
+
+  list-result : {A : Type 0} (c : List A → Capsule) (kind : ℕ) → ((xs : List A) → kindOf (c xs) ≡ kind) → (p : Parsed A)
+      → resultAt at (listed c start (start + n) p) ≡ judgedAt at (parsedVerdict p) (foundAt at kind start n)
+  list-result c kind k (fault r) = refl
+  list-result c kind k (all xs) = rw (k xs) (found-size kind)
+
+module _ (v : List ℕ) (at start : ℕ) where
+  value-result : (kind : ℕ) → kind ≤ otherKind → (kind ≤ 3 → length v ≤ maxValue)
+      → resultAt at (readValue kind v start) ≡ judgedAt at (valueVerdict kind v) (foundAt at kind start (length v))
+  unfolding readValue valueVerdict
+  value-result zero h l = found-size at start (length v) 0
+  value-result (suc zero) h l =
+      rw (entries-short false v (l (omega arith))) (list-result at start (length v) assign 1 (λ es. refl) (entriesIn false v))
+  value-result (suc (suc zero)) h l =
+      rw (entries-short true v (l (omega arith))) (list-result at start (length v) request 2 (λ es. refl) (entriesIn true v))
+  value-result (suc (suc (suc zero))) h l =
+      rw (ranges-short v (l (omega arith))) (list-result at start (length v) advertise 3 (λ rs. refl) (rangesIn v))
+  value-result (suc (suc (suc (suc zero)))) h l = found-size at start (length v) 4
+  value-result (suc (suc (suc (suc (suc n))))) h l = absurd (omega arith)
+
+-- ---- a capsule that a frame found: its type, where its value starts behind the place, and how long it is
+pub record Found (s : List ℕ) (at : ℕ) (f : CapsuleRead) : Type 0 where
+  pub type : ℕ
+  pub behind : ℕ
+  pub size : ℕ
+  pub framed : Framed (drop at s) type behind size
+  pub is : f ≡ foundAt at (min type otherKind) behind size
+
+module _ (s : List ℕ) (at : ℕ) (f : CapsuleRead) where
+  of-frame : (r : FrameRead) → frameOf (drop at s) ≡ r → f ≡ frameResult at r → f .verdict ≡ Go → Found s at f
+  of-frame (Value kind start size) q e g =
+      record {
+        type = kind;
+        behind = start;
+        size = size;
+        framed = frame-facts (drop at s) kind start size q;
+        is = e;
+      }
+  of-frame (Frame.Refused r) q e g = let z : _≡_ {A = ℕ} 0 1 = cc in absurd (omega arith)
+
+  pub found : f ≡ frameIn s at → f .verdict ≡ Go → Found s at f
+  unfolding frameIn
+  found e g = of-frame (frameOf (drop at s)) refl e g
+
+  of-refusal : (r : Refusal) (t : FrameRead) → frameOf (drop at s) ≡ t → f ≡ frameResult at t → f .verdict ≡ Stop r → f ≡ readAt s at
+  unfolding readAt readCapsule
+  of-refusal r (Value kind start size) q e g = let z : _≡_ {A = ℕ} 0 1 = cc in absurd (omega arith)
+  of-refusal r (Frame.Refused w) q e g = e ∙ sym (rw q refl)
+
+  of-refused : (r : Refusal) (t : FrameRead) → frameOf (drop at s) ≡ t → f ≡ frameResult at t → f .verdict ≡ Stop r
+      → readCapsule (drop at s) ≡ refused r
+  unfolding readCapsule
+  of-refused r (Value kind start size) q e g = let z : _≡_ {A = ℕ} 0 1 = cc in absurd (omega arith)
+  of-refused r (Frame.Refused w) q e g =
+      let z : _≡_ {A = Verdict} (Stop w) (Stop r) = sym (ap (λ (x : CapsuleRead). x .verdict) e) ∙ g in
+      let y : w ≡ r = cc in
+      ap (inFrame (drop at s)) q ∙ ap refused y
+
+  pub refused-reading : (r : Refusal) → f ≡ frameIn s at → f .verdict ≡ Stop r → readCapsule (drop at s) ≡ refused r
+  unfolding frameIn
+  refused-reading r e g = of-refused r (frameOf (drop at s)) refl e g
+
+  -- a refused frame is a refused capsule
+  pub frame-refused : (r : Refusal) → f ≡ frameIn s at → f .verdict ≡ Stop r → f ≡ readAt s at
+  unfolding frameIn
+  frame-refused r e g = of-refusal r (frameOf (drop at s)) refl e g
+
+-- the value as the code cuts it
+abbrev pub valueIn : List ℕ → CapsuleRead → List ℕ
+valueIn s f = take (f .next - f .start) (drop (f .start) s)
+
+module _ {s : List ℕ} {at : ℕ} {f : CapsuleRead} (k : Found s at f) where
+  starts : f .start ≡ at + k .behind
+  starts = ap (λ x. x .start) (k .is)
+
+  ends : f .next ≡ at + k .behind + k .size
+  ends = ap (λ x. x .next) (k .is)
+
+  kind-is : f .kind ≡ min (k .type) otherKind
+  kind-is = ap (λ x. x .kind) (k .is)
+
+  pub kind-within : f .kind ≤ otherKind
+  kind-within = omega (arith, kind-is)
+
+  pub start-within : f .start ≤ f .next
+  start-within = omega (arith, starts, ends)
+
+  -- type and length take a byte each at least
+  pub next-within : f .next ≤ length s
+  next-within =
+      let a = Number.taken (drop at s) (k .type) (k .framed .n) (k .framed .type) in
+      omega (arith, ends, k .framed .there, k .framed .starts, a .some, length-drop at s)
+
+  value-part : valueIn s f ≡ take (k .size) (drop (k .behind) (drop at s))
+  value-part =
+      let z : f .next - f .start ≡ k .size = omega (arith, starts, ends) in
+      let y : f .start ≡ at + k .behind = starts in
+      rw (drop-drop (k .behind) at s, z, y) refl
+
+  length-value : length (valueIn s f) ≡ k .size
+  length-value = simp (length-take, length-drop) (omega (arith, starts, ends, next-within))
+
+  pub value-short : f .kind ≤ 3 → length (valueIn s f) ≤ maxValue
+  value-short h =
+      let t : k .type ≤ 3 = omega (arith, kind-is) in
+      omega (arith, length-value, k .framed .short t)
+
+  -- the capsule is its value read by its kind
+  pub reading : readCapsule (drop at s) ≡ readValue (f .kind) (valueIn s f) (k .behind)
+  unfolding readCapsule
+  reading =
+      ap (inFrame (drop at s)) (framed-frame (k .framed))
+      ∙ ap (λ v. readValue (k .type) v (k .behind)) (sym value-part)
+      ∙ kind-value (k .type) (valueIn s f) (k .behind)
+      ∙ ap (λ t. readValue t (valueIn s f) (k .behind)) (sym kind-is)
+
+  found-again : foundAt at (f .kind) (k .behind) (length (valueIn s f)) ≡ foundAt at (min (k .type) otherKind) (k .behind) (k .size)
+  found-again =
+      ap (λ t. foundAt at t (k .behind) (length (valueIn s f))) kind-is ∙ ap (λ n. foundAt at (min (k .type) otherKind) (k .behind) n) length-value
+
+  pub judged-value : readAt s at ≡ judgedAt at (valueVerdict (f .kind) (valueIn s f)) f
+  unfolding readAt
+  judged-value =
+      ap (resultAt at) reading ∙ value-result (valueIn s f) at (k .behind) (f .kind) kind-within value-short
+      ∙ ap (judgedAt at (valueVerdict (f .kind) (valueIn s f))) (found-again ∙ sym (k .is))
+
+  pub found-read : valueVerdict (f .kind) (valueIn s f) ≡ Go → f ≡ readAt s at
+  found-read g = sym (judged-value ∙ ap (λ v. judgedAt at v f) g)
+
+  pub found-fault : (r : Refusal) → valueVerdict (f .kind) (valueIn s f) ≡ Stop r → refusedAt at r ≡ readAt s at
+  found-fault r g = sym (judged-value ∙ ap (λ v. judgedAt at v f) g)

@@ -1,6 +1,6 @@
 -- Capsules on bytes (RFC 9297, section 3.2; RFC 9484, section 4.7): type, length, value.
-use Prim.Native.Nat.{ℕ, _+_}
-use mathlib.Core.Bool.{true, false, _&&_}
+use Prim.Native.Nat.{ℕ, _+_, _/_}
+use mathlib.Core.Bool.{Bool, true, false, _&&_}
 use mathlib.Core.List.{List, [], _++_}
 use lib.Dec.{leb, ltb, eqb}
 use lib.ListN.{length, take, drop}
@@ -22,12 +22,28 @@ use Rattle.capsule.specs.Entries.{entryFormat, rangeFormat}
 abbrev pub maxValue : ℕ
 maxValue = 4096
 
+-- the fewest bytes of an entry: an ID of one byte, the version, four bytes of address, the prefix
+abbrev pub minEntry : ℕ
+minEntry = 7
+
+-- the most entries that a value within the limit can hold
+abbrev pub maxEntries : ℕ
+maxEntries = maxValue / minEntry
+
 pub data Capsule : Type 0 where
   datagram : List ℕ → Capsule
   assign : List AddressEntry → Capsule
   request : List AddressEntry → Capsule
   advertise : List RouteRange → Capsule
   unknown : Capsule
+
+-- 0 to 3 are the types themselves, and 4 is any other type
+abbrev pub kindOf : Capsule → ℕ
+kindOf (datagram v) = 0
+kindOf (assign es) = 1
+kindOf (request es) = 2
+kindOf (advertise rs) = 3
+kindOf unknown = 4
 
 -- ---- the frame: where the value of a capsule at the front of s starts and how long it is
 
@@ -47,6 +63,14 @@ afterType s Cut = Refused Incomplete
 
 unfoldable pub frameOf : List ℕ → FrameRead
 frameOf s = afterType s (readNumber s)
+
+-- ---- the elements of a value: over the limit, then the first fault element by element, then that of the whole list
+
+unfoldable pub entriesIn : Bool → List ℕ → Parsed AddressEntry
+entriesIn asked v = pick (ltb maxValue (length v)) (fault TooLong) (elementsIn (entryFormat asked) asked maxAddresses v)
+
+unfoldable pub rangesIn : List ℕ → Parsed RouteRange
+rangesIn v = pick (ltb maxValue (length v)) (fault TooLong) (elementsIn rangeFormat false maxRanges v)
 
 -- ---- what is read: a capsule, where its value starts and how many bytes it took in all; or the refusal
 pub data Reading : Type 0 where

@@ -30,6 +30,15 @@ pub data Parsed (A : Type 0) : Type 0 where
   fault : Refusal → Parsed A
   all : List A → Parsed A
 
+abbrev pub parsedVerdict : {A : Type 0} → Parsed A → Verdict
+parsedVerdict (fault r) = Stop r
+parsedVerdict (all xs) = Go
+
+-- the elements: of a fault none
+abbrev pub elementsOf : {A : Type 0} → Parsed A → List A
+elementsOf (fault r) = []
+elementsOf (all xs) = xs
+
 -- xs, and then what follows
 abbrev pub before : {A : Type 0} → List A → Parsed A → Parsed A
 before xs (fault r) = fault r

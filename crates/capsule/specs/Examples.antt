@@ -3,14 +3,17 @@ use Prim.Native.Nat.{ℕ, _+_, _*_}
 use mathlib.Core.Bool.{true, false}
 use mathlib.Core.Path.{_≡_, refl}
 use mathlib.Core.List.{List, [], _∷_}
+use lib.ListN.{replicate}
 use Rattle.answer.specs.declared.Refusal.the-variants.{Incomplete, TooLong, BadAddress, RangesOutOfOrder, BadRequestId}
+use Rattle.answer.specs.declared.Verdict.the-variants.{Go, Stop}
 use Rattle.varint.specs.Numbers.{readNumber, encode, encodedSize}
 use Rattle.lists.specs.declared.AddressEntry.{AddressEntry}
 use Rattle.lists.specs.declared.RouteRange.{RouteRange}
 use Rattle.lists.specs.Rules.{soundEntry, soundRange, inOrder}
-use Rattle.capsule.specs.Elements.{parse, elementsIn}
+use Rattle.capsule.specs.Elements.{fault, all, parse, elementsIn}
 use Rattle.capsule.specs.Entries.{readBody, readEntry, readRange, entryFollows, rangeFollows, entryBytes}
-use Rattle.capsule.specs.Capsules.{datagram, assign, request, advertise, unknown, refused, capsule, frameOf, readValue, readCapsule, capsuleBytes}
+use Rattle.capsule.specs.Capsules.{maxValue, datagram, assign, request, advertise, unknown, entriesIn, rangesIn, refused, capsule, frameOf, readValue, readCapsule, capsuleBytes}
+use Rattle.capsule.specs.Results.{readAt, frameIn}
 use Rattle.capsule.specs.Shortest.{everyElement, shortestCapsule}
 
 -- 192.0.2.d with a prefix of n bits
@@ -125,6 +128,46 @@ at-limit = refl
 nothing : readCapsule [] ≡ refused Incomplete
 unfolding readCapsule frameOf readNumber readValue
 nothing = refl
+
+-- ---- at a place of a buffer
+
+-- an empty list, and a datagram behind it
+second-read : readAt (0x01 ∷ 0x00 ∷ 0x00 ∷ 0x03 ∷ 0x00 ∷ 0x45 ∷ 0x00 ∷ []) 2 ≡ record { verdict = Go; kind = 0; start = 4; length = 3; next = 7 }
+unfolding readAt readCapsule frameOf readNumber readValue
+second-read = refl
+
+-- a capsule of type 0x21, and what its frame alone says
+other-read : readAt (0x21 ∷ 0x02 ∷ 0xaa ∷ 0xbb ∷ []) 0 ≡ record { verdict = Go; kind = 4; start = 2; length = 2; next = 4 }
+unfolding readAt readCapsule frameOf readNumber readValue
+other-read = refl
+
+other-framed : frameIn (0x21 ∷ 0x02 ∷ 0xaa ∷ 0xbb ∷ []) 0 ≡ record { verdict = Go; kind = 4; start = 2; length = 2; next = 4 }
+unfolding frameIn frameOf readNumber
+other-framed = refl
+
+-- a refusal leaves the place
+refused-read : readAt (0x01 ∷ 0x00 ∷ 0x02 ∷ 0x00 ∷ []) 2 ≡ record { verdict = Stop BadRequestId; kind = 0; start = 0; length = 0; next = 2 }
+unfolding readAt readCapsule frameOf readNumber readValue elementsIn parse
+refused-read = refl
+
+-- ---- lists without type and length
+
+entries-taken : entriesIn false (0x00 ∷ 0x04 ∷ 0xc0 ∷ 0x00 ∷ 0x02 ∷ 0x03 ∷ 0x20 ∷ []) ≡ all (network 0 3 32 ∷ [])
+unfolding entriesIn elementsIn parse readEntry readBody readNumber soundEntry entryFollows
+entries-taken = refl
+
+-- a value over the limit, whatever its bytes are
+value-over-limit : entriesIn false (replicate (maxValue + 1) 0) ≡ fault TooLong
+unfolding entriesIn
+value-over-limit = refl
+
+-- UDP, and then all protocols
+out-of-order : rangesIn (
+    0x04 ∷ 0xc6 ∷ 0x33 ∷ 0x64 ∷ 0x02 ∷ 0xc6 ∷ 0x33 ∷ 0x64 ∷ 0x02 ∷ 0x11
+    ∷ 0x04 ∷ 0xc6 ∷ 0x33 ∷ 0x64 ∷ 0x03 ∷ 0xc6 ∷ 0x33 ∷ 0x64 ∷ 0x03 ∷ 0x00 ∷ [])
+    ≡ fault RangesOutOfOrder
+unfolding rangesIn elementsIn parse readRange soundRange inOrder rangeFollows
+out-of-order = refl
 
 -- ---- shortest form
 

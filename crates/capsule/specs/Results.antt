@@ -1,76 +1,68 @@
 -- What reading a capsule from a buffer hands back.
-use Prim.Native.Nat.{ℕ, _+_, _^_, _<_, _≤_}
-use mathlib.Core.Bool.{Bool}
+use Prim.Native.Nat.{ℕ, _+_, _-_, min}
+use mathlib.Core.Bool.{false, true}
 use mathlib.Core.List.{List}
-use lib.ListN.{length, drop}
+use lib.Dec.{eqb}
+use lib.ListN.{drop}
+use Rattle.answer.specs.declared.Refusal.{Refusal}
+use Rattle.answer.specs.declared.Verdict.{Verdict}
 use Rattle.answer.specs.declared.Verdict.the-variants.{Go, Stop}
 use Rattle.answer.specs.Choice.{pick}
-use Rattle.answer.specs.Number.{numberOf}
 use Rattle.lists.specs.declared.AddressEntry.{AddressEntry}
 use Rattle.lists.specs.declared.RouteRange.{RouteRange}
 use Rattle.lists.specs.Words.{addressList, routeList, noAddresses, noRoutes}
-use Rattle.capsule.specs.declared.Outcome.{Outcome}
-use Rattle.capsule.specs.declared.Outcome.the-variants.{Datagram, Assigned, Requested, Advertised, Skipped, Refused}
 use Rattle.capsule.specs.declared.CapsuleRead.{CapsuleRead}
+use Rattle.capsule.specs.declared.FrameRead.{FrameRead}
+use Rattle.capsule.specs.declared.FrameRead.the-variants.{Value, Refused}
 use Rattle.capsule.specs.declared.list.EntriesRead.{EntriesRead}
 use Rattle.capsule.specs.declared.list.RangesRead.{RangesRead}
-use Rattle.capsule.specs.Elements.{Parsed, fault, all}
-use Rattle.capsule.specs.Capsules.{Capsule, datagram, assign, request, advertise, unknown, Reading, refused, capsule, readCapsule, maxValue}
+use Rattle.capsule.specs.Elements.{Parsed, fault, all, parsedVerdict}
+use Rattle.capsule.specs.Capsules.{kindOf, unknown, entriesIn, rangesIn, Reading, refused, capsule, frameOf, readCapsule}
 
--- the number that an outcome gives back
-abbrev pub outcomeNumber : Outcome → ℕ
-outcomeNumber (Datagram start size next) = 0
-outcomeNumber (Assigned next) = 0
-outcomeNumber (Requested next) = 0
-outcomeNumber (Advertised next) = 0
-outcomeNumber (Skipped next) = 0
-outcomeNumber (Refused r) = numberOf r
+-- the kind of any type but 0 to 3
+abbrev pub otherKind : ℕ
+otherKind = kindOf unknown
 
--- where reading goes on after an outcome at a place: a refusal consumes nothing
-abbrev pub nextPlace : ℕ → Outcome → ℕ
-nextPlace at (Datagram start size next) = next
-nextPlace at (Assigned next) = next
-nextPlace at (Requested next) = next
-nextPlace at (Advertised next) = next
-nextPlace at (Skipped next) = next
-nextPlace at (Refused r) = at
+-- a refusal leaves the place, and all else is 0
+abbrev pub refusedAt : ℕ → Refusal → CapsuleRead
+refusedAt at r = record { verdict = Stop r; kind = 0; start = 0; length = 0; next = at }
 
--- an outcome that hands no list back
-abbrev pub alone : Outcome → CapsuleRead
-alone o = record { outcome = o; addresses = noAddresses; routes = noRoutes }
+-- a capsule at a place, whose value of so many bytes starts so far behind it
+abbrev pub foundAt : ℕ → ℕ → ℕ → ℕ → CapsuleRead
+foundAt at kind start size = record { verdict = Go; kind = kind; start = at + start; length = size; next = at + start + size }
 
-abbrev pub handed : ℕ → Capsule → ℕ → ℕ → CapsuleRead
-handed at (datagram v) start size = alone (Datagram (at + start) (length v) (at + size))
-handed at (assign es) start size = record { outcome = Assigned (at + size); addresses = addressList es; routes = noRoutes }
-handed at (request es) start size = record { outcome = Requested (at + size); addresses = addressList es; routes = noRoutes }
-handed at (advertise rs) start size = record { outcome = Advertised (at + size); addresses = noAddresses; routes = routeList rs }
-handed at unknown start size = alone (Skipped (at + size))
+-- what a verdict on its value leaves of a capsule that was found
+abbrev pub judgedAt : ℕ → Verdict → CapsuleRead → CapsuleRead
+judgedAt at Go f = f
+judgedAt at (Stop r) f = refusedAt at r
 
--- a reading at a place of a buffer
+-- ---- a capsule whose value is read
+
 abbrev pub resultAt : ℕ → Reading → CapsuleRead
-resultAt at (refused r) = alone (Refused r)
-resultAt at (capsule c start size) = handed at c start size
+resultAt at (refused r) = refusedAt at r
+resultAt at (capsule c start size) = foundAt at (kindOf c) start (size - start)
 
 -- the capsule at a place of a buffer; past the end there is none
 unfoldable pub readAt : List ℕ → ℕ → CapsuleRead
 readAt s at = resultAt at (readCapsule (drop at s))
 
--- the lists of types 1 and 2, and of type 3, with the place where reading goes on
-abbrev pub addressResult : Bool → ℕ → Parsed AddressEntry → CapsuleRead
-addressResult asked next (fault r) = alone (Refused r)
-addressResult asked next (all es) =
-    record { outcome = pick asked (Requested next) (Assigned next); addresses = addressList es; routes = noRoutes }
+-- ---- a capsule whose value is not looked at
 
-abbrev pub routeResult : ℕ → Parsed RouteRange → CapsuleRead
-routeResult next (fault r) = alone (Refused r)
-routeResult next (all rs) = record { outcome = Advertised next; addresses = noAddresses; routes = routeList rs }
+abbrev pub frameResult : ℕ → FrameRead → CapsuleRead
+frameResult at (Value kind start size) = foundAt at (min kind otherKind) start size
+frameResult at (Refused r) = refusedAt at r
 
--- a value of a capsule at a place: no sum of places wraps, and of types 0 to 3 it is within the limit
-pub record ValueAt (kind : ℕ) (v : List ℕ) (at start : ℕ) : Type 0 where
-  pub within : at + start + length v < 2 ^ 64
-  pub short : kind ≤ 3 → length v ≤ maxValue
+unfoldable pub frameIn : List ℕ → ℕ → CapsuleRead
+frameIn s at = frameResult at (frameOf (drop at s))
 
--- the list of a value
+-- the first fault of a value of a kind
+unfoldable pub valueVerdict : ℕ → List ℕ → Verdict
+valueVerdict kind v =
+    pick (eqb kind 1) (parsedVerdict (entriesIn false v))
+    (pick (eqb kind 2) (parsedVerdict (entriesIn true v)) (pick (eqb kind 3) (parsedVerdict (rangesIn v)) Go))
+
+-- ---- the list of a value: with a refusal it is empty
+
 abbrev pub entriesResult : Parsed AddressEntry → EntriesRead
 entriesResult (fault r) = record { verdict = Stop r; list = noAddresses }
 entriesResult (all es) = record { verdict = Go; list = addressList es }

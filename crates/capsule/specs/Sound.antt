@@ -13,16 +13,9 @@ use Rattle.octets.specs.Scan.{allOf}
 use Rattle.lists.specs.Words.{maxAddresses, maxRanges}
 use Rattle.capsule.specs.Elements.{Format, judged, countVerdict, written}
 use Rattle.capsule.specs.Entries.{entryFormat, rangeFormat}
-use Rattle.capsule.specs.Capsules.{maxValue, Capsule, datagram, assign, request, advertise, unknown}
+use Rattle.capsule.specs.Capsules.{maxValue, kindOf, Capsule, datagram, assign, request, advertise, unknown}
 
--- ---- the parts of a capsule as it is written: 0 to 3, since no other type is
-
-abbrev pub kindOf : Capsule → ℕ
-kindOf (datagram v) = 0
-kindOf (assign es) = 1
-kindOf (request es) = 2
-kindOf (advertise rs) = 3
-kindOf unknown = 4
+-- ---- the parts of a capsule as it is written
 
 abbrev pub valueOf : Capsule → List ℕ
 valueOf (datagram v) = v
@@ -32,8 +25,8 @@ valueOf (advertise rs) = written rangeFormat rs
 valueOf unknown = []
 
 -- where the value starts: behind the type and the length
-abbrev pub startOf : Capsule → ℕ
-startOf c = encodedSize (kindOf c) + encodedSize (length (valueOf c))
+abbrev pub valueStart : Capsule → ℕ
+valueStart c = encodedSize (kindOf c) + encodedSize (length (valueOf c))
 
 -- ---- the rules
 

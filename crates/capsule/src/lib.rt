@@ -1,5 +1,5 @@
 // Capsules read from a buffer (RFC 9297, section 3.2; RFC 9484, section 4.7): DATAGRAM, ADDRESS_ASSIGN, ADDRESS_REQUEST, ROUTE_ADVERTISEMENT,
-// and any other type, which is skipped whole. Nothing is kept here: a list is handed back, and who keeps it is above.
+// and any other type, which is skipped whole. A capsule read says where its value stands; the list of a value is read from there.
 // Refused, in this order: a capsule that is not all there (1; of types 0 to 3 a value over the limit first, 2), then the first fault
 // element by element (3 or 4 before 6 or 5), an empty request (6), a list over its limit (7).
 mod element;
@@ -11,55 +11,33 @@ pub use element::EntryRead;
 pub use element::RangeRead;
 pub use list::EntriesRead;
 pub use list::RangesRead;
-use lists::AddressList;
-use lists::RouteList;
+pub use list::entries_in;
+pub use list::ranges_in;
 use varint::NumberRead;
 ghost use mathlib.Core.Path.{_≡_};
-ghost use Prim.Native.Nat.{_≤_};
+ghost use Prim.Native.Nat.{_≤_, min};
 ghost use lib.ListN.{length};
-ghost use Rattle.capsule.specs.Capsules.{maxValue, frameOf, frameAt, readValue};
-ghost use Rattle.capsule.specs.Results.{outcomeNumber, nextPlace, alone, resultAt, readAt, addressResult, routeResult, ValueAt};
-ghost use Rattle.capsule.specs.Elements.{elementsIn};
-ghost use Rattle.capsule.specs.Entries.{entryFormat, rangeFormat};
-ghost use Rattle.lists.specs.Words.{maxAddresses, maxRanges};
-ghost use mathlib.Core.Bool.{false};
+ghost use Rattle.answer.specs.Number.{verdictNumber};
+ghost use Rattle.capsule.specs.Capsules.{frameOf, frameAt};
+ghost use Rattle.capsule.specs.Results.{refusedAt, otherKind, valueVerdict, frameIn, readAt};
 
 // The most bytes of a value of types 0 to 3.
 pub const MAX_VALUE: usize = 4096;
 
-// What stood at the place: its kind, and where reading goes on.
-pub enum Outcome {
-    // The value of a DATAGRAM stands in the buffer from start on.
-    Datagram {
-        start: usize,
-        length: usize,
-        next: usize,
-    },
-    Assigned {
-        next: usize,
-    },
-    Requested {
-        next: usize,
-    },
-    Advertised {
-        next: usize,
-    },
-    // A capsule of another type.
-    Skipped {
-        next: usize,
-    },
-    Refused(Refusal),
-}
+// The kind of a capsule of any other type than 0 to 3.
+pub const OTHER_KIND: u64 = 4;
 
-// The outcome, and the list of an ADDRESS_ASSIGN, an ADDRESS_REQUEST or a ROUTE_ADVERTISEMENT. The other lists are empty.
-#[repr(C)]
+// What stood at a place of a buffer: the kind is 0 DATAGRAM, 1 ADDRESS_ASSIGN, 2 ADDRESS_REQUEST, 3 ROUTE_ADVERTISEMENT, 4 any other type.
+// The value stands in the buffer from start on, and reading goes on at next. A refusal leaves the place, and all else is 0.
 pub struct CapsuleRead {
-    pub outcome: Outcome,
-    pub addresses: AddressList,
-    pub routes: RouteList,
+    pub verdict: Verdict,
+    pub kind: u64,
+    pub start: usize,
+    pub length: usize,
+    pub next: usize,
 }
 
-// Where the value of a capsule starts, and how long it is.
+// Where the value of a capsule at the front of some bytes starts, and how long it is.
 pub enum FrameRead {
     Value {
         kind: u64,
@@ -69,68 +47,88 @@ pub enum FrameRead {
     Refused(Refusal),
 }
 
-impl Outcome {
+impl CapsuleRead {
     // 0, or the refusal's number.
     pub fn number(self) -> u8
-        ensures { λ r. ⌜ r ≡ outcomeNumber self ⌝ }
+        ensures { λ r. ⌜ r ≡ verdictNumber (self .verdict) ⌝ }
     {
-        match self {
-            Outcome::Datagram {
-                start: _,
-                length: _,
-                next: _,
-            } => 0,
-            Outcome::Assigned { next: _ } => 0,
-            Outcome::Requested { next: _ } => 0,
-            Outcome::Advertised { next: _ } => 0,
-            Outcome::Skipped { next: _ } => 0,
-            Outcome::Refused(why) => why.number(),
-        }
-    }
-
-    // Where reading goes on: a refusal at a place leaves it there.
-    pub fn next_place(self, at: usize) -> usize
-        ensures { λ r. ⌜ r ≡ nextPlace at self ⌝ }
-    {
-        match self {
-            Outcome::Datagram {
-                start: _,
-                length: _,
-                next,
-            } => next,
-            Outcome::Assigned { next } => next,
-            Outcome::Requested { next } => next,
-            Outcome::Advertised { next } => next,
-            Outcome::Skipped { next } => next,
-            Outcome::Refused(_) => at,
-        }
+        let verdict = self.verdict;
+        verdict.number()
     }
 }
 
-// The capsule at a place of the buffer.
+// The capsule at a place of the buffer. Its list is judged, and not handed back.
 pub fn read(bytes: &[u8], at: usize) -> CapsuleRead
     ensures { λ r. ⌜ r ≡ readAt (now (bytes .entry)) at ⌝ }
 {
-    if bytes.len() < at {
-        return with_no_list(Outcome::Refused(Refusal::Incomplete));
+    let found = frame(bytes, at);
+    let framed = found.verdict;
+    match framed {
+        Verdict::Go => {
+            let start = found.start;
+            let next = found.next;
+            let verdict = value_verdict(found.kind, &bytes[start..next]);
+            match verdict {
+                Verdict::Go => found,
+                Verdict::Stop(why) => refused(why, at),
+            }
+        }
+        Verdict::Stop(_) => found,
     }
-    let rest = &bytes[at..];
-    let f = frame(rest);
+}
+
+// Its kind and its place alone, whatever its value holds.
+pub fn frame(bytes: &[u8], at: usize) -> CapsuleRead
+    ensures { λ r. ⌜ r ≡ frameIn (now (bytes .entry)) at ⌝ }
+{
+    if bytes.len() < at {
+        return refused(Refusal::Incomplete, at);
+    }
+    let f = frame_of(&bytes[at..]);
     match f {
         FrameRead::Value {
             kind,
             start,
             length,
         } => {
-            let end = start + length;
-            read_value(kind, &rest[start..end], at, start)
+            let place = at + start;
+            CapsuleRead {
+                verdict: Verdict::Go,
+                kind: kind_of(kind),
+                start: place,
+                length,
+                next: place + length,
+            }
         }
-        FrameRead::Refused(why) => with_no_list(Outcome::Refused(why)),
+        FrameRead::Refused(why) => refused(why, at),
     }
 }
 
+// A refusal at a place.
+pub fn refused(why: Refusal, at: usize) -> CapsuleRead
+    ensures { λ r. ⌜ r ≡ refusedAt at why ⌝ }
+{
+    CapsuleRead {
+        verdict: Verdict::Stop(why),
+        kind: 0,
+        start: 0,
+        length: 0,
+        next: at,
+    }
+}
+
+// The kind of a capsule type.
+fn kind_of(number: u64) -> u64
+    ensures { λ r. ⌜ r ≡ min number otherKind ⌝ }
+{
+    if OTHER_KIND < number {
+        return OTHER_KIND;
+    }
+    number
+}
+
 // Type and length, and whether the value is all there.
-fn frame(s: &[u8]) -> FrameRead
+fn frame_of(s: &[u8]) -> FrameRead
     ensures { λ r. ⌜ r ≡ frameOf (now (s .entry)) ⌝ }
 {
     let t = varint::read(s);
@@ -173,89 +171,21 @@ fn frame_at(s: &[u8], kind: u64, start: usize, size: u64) -> FrameRead
     }
 }
 
-fn with_no_list(outcome: Outcome) -> CapsuleRead
-    ensures { λ r. ⌜ r ≡ alone outcome ⌝ }
+// The first fault of the value of a capsule of a kind.
+fn value_verdict(kind: u64, value: &[u8]) -> Verdict
+    ensures { λ r. ⌜ r ≡ valueVerdict kind (now (value .entry)) ⌝ }
 {
-    let addresses = lists::no_addresses();
-    let routes = lists::no_routes();
-    CapsuleRead {
-        outcome,
-        addresses,
-        routes,
-    }
-}
-
-// A value that starts at start, in a capsule at a place of the buffer.
-fn read_value(kind: u64, value: &[u8], at: usize, start: usize) -> CapsuleRead
-    requires { ⌜ ValueAt kind (now value) at start ⌝ }
-    ensures { λ r. ⌜ r ≡ resultAt at (readValue kind (now (value .entry)) start) ⌝ }
-{
-    let place = at + start;
-    let next = place + value.len();
-    if kind == 0 {
-        return with_no_list(Outcome::Datagram {
-            start: place,
-            length: value.len(),
-            next,
-        });
-    }
     if kind == 1 {
-        return read_addresses(value, false, next);
+        let found = entries_in(value, false);
+        return found.verdict;
     }
     if kind == 2 {
-        return read_addresses(value, true, next);
+        let found = entries_in(value, true);
+        return found.verdict;
     }
     if kind == 3 {
-        return read_routes(value, next);
+        let found = ranges_in(value);
+        return found.verdict;
     }
-    with_no_list(Outcome::Skipped { next })
-}
-
-// The value of an ADDRESS_REQUEST, or else of an ADDRESS_ASSIGN.
-fn read_addresses(value: &[u8], request: bool, next: usize) -> CapsuleRead
-    requires { ⌜ length (now value) ≤ maxValue ⌝ }
-    ensures { λ r. ⌜ r ≡ addressResult request next (elementsIn (entryFormat request) request maxAddresses (now (value .entry))) ⌝ }
-{
-    let found = list::read_entries(value, request);
-    let verdict = found.verdict;
-    let addresses = found.list;
-    match verdict {
-        Verdict::Go => {
-            let routes = lists::no_routes();
-            if request {
-                return CapsuleRead {
-                    outcome: Outcome::Requested { next },
-                    addresses,
-                    routes,
-                };
-            }
-            CapsuleRead {
-                outcome: Outcome::Assigned { next },
-                addresses,
-                routes,
-            }
-        }
-        Verdict::Stop(why) => with_no_list(Outcome::Refused(why)),
-    }
-}
-
-// The value of a ROUTE_ADVERTISEMENT.
-fn read_routes(value: &[u8], next: usize) -> CapsuleRead
-    requires { ⌜ length (now value) ≤ maxValue ⌝ }
-    ensures { λ r. ⌜ r ≡ routeResult next (elementsIn rangeFormat false maxRanges (now (value .entry))) ⌝ }
-{
-    let found = list::read_ranges(value);
-    let verdict = found.verdict;
-    let routes = found.list;
-    match verdict {
-        Verdict::Go => {
-            let addresses = lists::no_addresses();
-            CapsuleRead {
-                outcome: Outcome::Advertised { next },
-                addresses,
-                routes,
-            }
-        }
-        Verdict::Stop(why) => with_no_list(Outcome::Refused(why)),
-    }
+    Verdict::Go
 }

@@ -1,4 +1,5 @@
 // The lists of a capsule's value: element by element up to its end, or the first fault.
+use crate::MAX_VALUE;
 use crate::element::EntryRead;
 use crate::element::RangeRead;
 use answer::Refusal;
@@ -18,11 +19,14 @@ ghost use Rattle.octets.specs.Scan.{anyOf};
 ghost use Rattle.lists.specs.Words.{maxAddresses, maxRanges};
 ghost use Rattle.capsule.specs.Elements.{fault, elementsIn};
 ghost use Rattle.capsule.specs.Entries.{entryFormat, rangeFormat};
-ghost use Rattle.capsule.specs.Capsules.{maxValue};
+ghost use Rattle.capsule.specs.Capsules.{maxValue, maxEntries, entriesIn, rangesIn};
 ghost use Rattle.capsule.specs.Results.{entriesResult, rangesResult};
 
-// The most entries that a value within the limit can hold: the shortest takes 7 bytes.
-const MAX_ENTRIES: usize = 585;
+// The fewest bytes of an entry: an ID of one byte, the version, four bytes of address, the prefix.
+const MIN_ENTRY: usize = 7;
+
+// The most entries that a value within the limit can hold.
+const MAX_ENTRIES: usize = MAX_VALUE / MIN_ENTRY;
 
 pub struct EntriesRead {
     pub verdict: Verdict,
@@ -34,8 +38,28 @@ pub struct RangesRead {
     pub list: RouteList,
 }
 
+// The entries of a value of an ADDRESS_REQUEST, or else of an ADDRESS_ASSIGN.
+pub fn entries_in(value: &[u8], request: bool) -> EntriesRead
+    ensures { λ r. ⌜ r ≡ entriesResult (entriesIn request (now (value .entry))) ⌝ }
+{
+    if MAX_VALUE < value.len() {
+        return no_entries(Refusal::TooLong);
+    }
+    read_entries(value, request)
+}
+
+// The ranges of a value of a ROUTE_ADVERTISEMENT.
+pub fn ranges_in(value: &[u8]) -> RangesRead
+    ensures { λ r. ⌜ r ≡ rangesResult (rangesIn (now (value .entry))) ⌝ }
+{
+    if MAX_VALUE < value.len() {
+        return no_ranges(Refusal::TooLong);
+    }
+    read_ranges(value)
+}
+
 // The entries of a request, or else of an assignment.
-pub(crate) fn read_entries(value: &[u8], request: bool) -> EntriesRead
+fn read_entries(value: &[u8], request: bool) -> EntriesRead
     requires { ⌜ length (now value) ≤ maxValue ⌝ }
     ensures { λ r. ⌜ r ≡ entriesResult (elementsIn (entryFormat request) request maxAddresses (now (value .entry))) ⌝ }
 {
@@ -84,7 +108,7 @@ pub(crate) fn read_entries(value: &[u8], request: bool) -> EntriesRead
 
 // Whether an ID is zero, or one of the first n.
 fn zero_or_seen(ids: &[u64; MAX_ENTRIES], n: usize, id: u64) -> bool
-    requires { ⌜ n ≤ 585 ⌝ }
+    requires { ⌜ n ≤ maxEntries ⌝ }
     ensures { λ r. ⌜ r ≡ (eqb id 0 || anyOf (λ d. eqb d id) (take n (now (ids .entry)))) ⌝ }
 {
     if id == 0 {
@@ -111,7 +135,7 @@ fn no_entries(why: Refusal) -> EntriesRead
 }
 
 // The ranges of an advertisement.
-pub(crate) fn read_ranges(value: &[u8]) -> RangesRead
+fn read_ranges(value: &[u8]) -> RangesRead
     requires { ⌜ length (now value) ≤ maxValue ⌝ }
     ensures { λ r. ⌜ r ≡ rangesResult (elementsIn rangeFormat false maxRanges (now (value .entry))) ⌝ }
 {

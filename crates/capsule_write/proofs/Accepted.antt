@@ -5,7 +5,7 @@ use mathlib.Core.Path.{_≡_, refl, sym, ap, _∙_}
 use mathlib.Core.List.{List, [], _∷_}
 use native.Mathlib.Nat.{mul-suc}
 use native.Mathlib.Omega.{arith}
-use borrow.Author.Tests.{leb-true, ltb-false, le-leb, not-false}
+use borrow.Author.Tests.{leb-true, ltb-false, not-false}
 use lib.Dec.{leb, ltb}
 use lib.ListN.{length, length-append}
 use Rattle.answer.specs.declared.Refusal.{Refusal}
@@ -13,17 +13,16 @@ use Rattle.answer.specs.declared.Refusal.the-variants.{NoRoom, TooLong, TooMany
 use Rattle.answer.specs.declared.Verdict.{Verdict}
 use Rattle.answer.specs.declared.Verdict.the-variants.{Go, Stop}
 use Rattle.answer.specs.Verdict.{stopIf, _then_}
-use Rattle.lists.specs.declared.AddressEntry.{AddressEntry}
 use Rattle.lists.specs.declared.RouteRange.{RouteRange}
 use Rattle.octets.specs.Scan.{from, allOf}
 use Rattle.lists.specs.Rules.{soundEntry, soundRange, inOrder, beforeAll, soundAfter}
 use Rattle.lists.specs.Words.{maxAddresses, maxRanges, countOf, entryAt, rangeAt, entriesOf, rangesOf, soundAddresses, soundRoutes}
-use Rattle.lists.proofs.ListScans.{entries-within, ranges-within}
+use Rattle.lists.proofs.ListScans.{facts-addresses, facts-routes, length-entries, length-ranges}
 use Rattle.capsule.specs.Elements.{Format, judged, countVerdict, written}
 use Rattle.capsule.specs.Entries.{entryFormat, rangeFormat, rangeFollows, newest}
 use Rattle.capsule.specs.Capsules.{maxValue, capsuleBytes, datagram, assign, request, advertise}
 use Rattle.capsule_write.specs.Sizes.{maxEntry, maxRange}
-use Rattle.capsule_write.specs.Verdicts.{capsuleRoom, storedEntries, storedRanges, entriesVerdict, rangesVerdict, addressVerdict, routeVerdict, datagramVerdict}
+use Rattle.capsule_write.specs.Verdicts.{capsuleRoom, storedEntries, storedRanges, withRoom, valueLimit, entriesVerdict, rangesVerdict}
 use Rattle.capsule_write.proofs.Lengths.{entry-most, range-most}
 use Rattle.capsule_write.proofs.Frames.{frame-most, datagram-frame, assign-frame, request-frame, advertise-frame}
 
@@ -69,10 +68,6 @@ judged-order earlier (r ∷ rs) e =
     let b = then-go (rangeFollows earlier r) (judged rangeFormat (r ∷ earlier) rs) (a .1) in
     rw (not-false (soundRange r) (a .0), follows-order earlier r (b .0)) (judged-order (r ∷ earlier) rs (b .1))
 
-length-from : {A : Type 0} (f : ℕ → A) (i n : ℕ) → length (from f i n) ≡ n
-length-from f i zero = refl
-length-from f i (suc n) = ap suc (length-from f (suc i) n)
-
 -- ---- address lists
 
 pub record EntriesGo (asked : Bool) (w : List ℕ) : Type 0 where
@@ -81,20 +76,20 @@ pub record EntriesGo (asked : Bool) (w : List ℕ) : Type 0 where
   pub faultless : judged (entryFormat asked) [] (entriesOf w) ≡ Go
   pub counted : countVerdict asked maxAddresses (length (entriesOf w)) ≡ Go
   pub entries : allOf soundEntry (entriesOf w) ≡ true
-  pub sound : soundAddresses w ≡ true
+  pub sound : soundAddresses (entriesOf w) ≡ true
   pub value : length (written (entryFormat asked) (entriesOf w)) ≤ maxValue
 
 module _ (asked : Bool) (w : List ℕ) where
   pub entries-go : entriesVerdict asked w ≡ Go → EntriesGo asked w
-  unfolding entriesVerdict soundAddresses
+  unfolding entriesVerdict entriesOf
   entries-go e =
       let es = entriesOf w in
       let t = then-go (judged (entryFormat asked) [] (storedEntries w)) (countVerdict asked maxAddresses (countOf w)) e in
       let h : countOf w ≤ maxAddresses = count-go asked maxAddresses (countOf w) (t .1) in
       let q : min (countOf w) maxAddresses ≡ countOf w = omega arith in
-      let s : storedEntries w ≡ es = ap (from (entryAt w) 0) q ∙ sym (entries-within w h) in
+      let s : storedEntries w ≡ es = ap (from (entryAt w) 0) q in
       let g : judged (entryFormat asked) [] es ≡ Go = ap (judged (entryFormat asked) []) (sym s) ∙ t .0 in
-      let l : length es ≡ countOf w = ap length (entries-within w h) ∙ length-from (entryAt w) 0 (countOf w) in
+      let l : length es ≡ countOf w = length-entries w in
       let a : allOf soundEntry es ≡ true = judged-sound (entryFormat asked) [] es g in
       record {
         within = h;
@@ -102,15 +97,9 @@ module _ (asked : Bool) (w : List ℕ) where
         faultless = g;
         counted = ap (countVerdict asked maxAddresses) l ∙ t .1;
         entries = a;
-        sound = rw (le-leb (countOf w) maxAddresses h) a;
+        sound = facts-addresses es (omega (arith, l)) a;
         value = omega (arith, written-most (entryFormat asked) maxEntry entry-most es, l);
       }
-
-  pub address-go : (n : ℕ) → addressVerdict asked w n ≡ Go → (capsuleRoom ≤ n) × EntriesGo asked w
-  unfolding addressVerdict
-  address-go n e =
-      let t = if-go (ltb n capsuleRoom) NoRoom (entriesVerdict asked w) e in
-      (ltb-false n capsuleRoom (t .0), entries-go (t .1))
 
 -- ---- route lists
 
@@ -120,20 +109,20 @@ pub record RangesGo (w : List ℕ) : Type 0 where
   pub faultless : judged rangeFormat [] (rangesOf w) ≡ Go
   pub counted : countVerdict false maxRanges (length (rangesOf w)) ≡ Go
   pub ranges : soundAfter beforeAll (rangesOf w) ≡ true
-  pub sound : soundRoutes w ≡ true
+  pub sound : soundRoutes (rangesOf w) ≡ true
   pub value : length (written rangeFormat (rangesOf w)) ≤ maxValue
 
 module _ (w : List ℕ) where
   pub ranges-go : rangesVerdict w ≡ Go → RangesGo w
-  unfolding rangesVerdict soundRoutes
+  unfolding rangesVerdict rangesOf
   ranges-go e =
       let rs = rangesOf w in
       let t = then-go (judged rangeFormat [] (storedRanges w)) (countVerdict false maxRanges (countOf w)) e in
       let h : countOf w ≤ maxRanges = count-go false maxRanges (countOf w) (t .1) in
       let q : min (countOf w) maxRanges ≡ countOf w = omega arith in
-      let s : storedRanges w ≡ rs = ap (from (rangeAt w) 0) q ∙ sym (ranges-within w h) in
+      let s : storedRanges w ≡ rs = ap (from (rangeAt w) 0) q in
       let g : judged rangeFormat [] rs ≡ Go = ap (judged rangeFormat []) (sym s) ∙ t .0 in
-      let l : length rs ≡ countOf w = ap length (ranges-within w h) ∙ length-from (rangeAt w) 0 (countOf w) in
+      let l : length rs ≡ countOf w = length-ranges w in
       let a : soundAfter beforeAll rs ≡ true = judged-order [] rs g in
       record {
         within = h;
@@ -141,36 +130,31 @@ module _ (w : List ℕ) where
         faultless = g;
         counted = ap (countVerdict false maxRanges) l ∙ t .1;
         ranges = a;
-        sound = rw (le-leb (countOf w) maxRanges h) a;
+        sound = facts-routes rs (omega (arith, l)) a;
         value = omega (arith, written-most rangeFormat maxRange range-most rs, l);
       }
 
-  pub route-go : (n : ℕ) → routeVerdict w n ≡ Go → (capsuleRoom ≤ n) × RangesGo w
-  unfolding routeVerdict
-  route-go n e =
-      let t = if-go (ltb n capsuleRoom) NoRoom (rangesVerdict w) e in
-      (ltb-false n capsuleRoom (t .0), ranges-go (t .1))
+-- ---- the output
 
--- ---- datagrams
+pub room-go : (n : ℕ) (v : Verdict) → withRoom n v ≡ Go → (capsuleRoom ≤ n) × (v ≡ Go)
+unfolding withRoom
+room-go n v e = let t = if-go (ltb n capsuleRoom) NoRoom v e in (ltb-false n capsuleRoom (t .0), t .1)
 
-pub datagram-go : (v : List ℕ) (n : ℕ) → datagramVerdict v n ≡ Go → (capsuleRoom ≤ n) × (length v ≤ maxValue)
-unfolding datagramVerdict
-datagram-go v n e =
-    let t = if-go (ltb n capsuleRoom) NoRoom (stopIf (ltb maxValue (length v)) TooLong Go) e in
-    let s = if-go (ltb maxValue (length v)) TooLong Go (t .1) in
-    (ltb-false n capsuleRoom (t .0), ltb-false maxValue (length v) (s .0))
+pub limit-go : (v : List ℕ) → valueLimit v ≡ Go → length v ≤ maxValue
+unfolding valueLimit
+limit-go v e = ltb-false maxValue (length v) (if-go (ltb maxValue (length v)) TooLong Go e .0)
 
 -- ---- a capsule that is written fits the least output
 
-pub datagram-most : (v : List ℕ) (n : ℕ) → datagramVerdict v n ≡ Go → length (capsuleBytes (datagram v)) ≤ capsuleRoom
-datagram-most v n e = rw (datagram-frame v) at (frame-most 0 v (omega arith) (datagram-go v n e .1))
+pub datagram-most : (v : List ℕ) → valueLimit v ≡ Go → length (capsuleBytes (datagram v)) ≤ capsuleRoom
+datagram-most v e = rw (datagram-frame v) at (frame-most 0 v (omega arith) (limit-go v e))
 
-module _ (w : List ℕ) (n : ℕ) where
-  pub assign-most : addressVerdict false w n ≡ Go → length (capsuleBytes (assign (entriesOf w))) ≤ capsuleRoom
-  assign-most e = rw (assign-frame w) at (frame-most 1 (written (entryFormat false) (entriesOf w)) (omega arith) (address-go false w n e .1 .value))
+module _ (w : List ℕ) where
+  pub assign-most : entriesVerdict false w ≡ Go → length (capsuleBytes (assign (entriesOf w))) ≤ capsuleRoom
+  assign-most e = rw (assign-frame w) at (frame-most 1 (written (entryFormat false) (entriesOf w)) (omega arith) (entries-go false w e .value))
 
-  pub request-most : addressVerdict true w n ≡ Go → length (capsuleBytes (request (entriesOf w))) ≤ capsuleRoom
-  request-most e = rw (request-frame w) at (frame-most 2 (written (entryFormat true) (entriesOf w)) (omega arith) (address-go true w n e .1 .value))
+  pub request-most : entriesVerdict true w ≡ Go → length (capsuleBytes (request (entriesOf w))) ≤ capsuleRoom
+  request-most e = rw (request-frame w) at (frame-most 2 (written (entryFormat true) (entriesOf w)) (omega arith) (entries-go true w e .value))
 
-  pub advertise-most : routeVerdict w n ≡ Go → length (capsuleBytes (advertise (rangesOf w))) ≤ capsuleRoom
-  advertise-most e = rw (advertise-frame w) at (frame-most 3 (written rangeFormat (rangesOf w)) (omega arith) (route-go w n e .1 .value))
+  pub advertise-most : rangesVerdict w ≡ Go → length (capsuleBytes (advertise (rangesOf w))) ≤ capsuleRoom
+  advertise-most e = rw (advertise-frame w) at (frame-most 3 (written rangeFormat (rangesOf w)) (omega arith) (ranges-go w e .value))

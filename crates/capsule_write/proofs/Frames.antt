@@ -18,15 +18,13 @@ use Rattle.answer.proofs.Tests.{order}
 use Rattle.varint.specs.Numbers.{encode, encodedSize}
 use Rattle.varint.proofs.Encoding.{length-encode, size-one, size-two}
 use Rattle.lists.specs.declared.AddressEntry.{AddressEntry}
-use Rattle.lists.specs.declared.RouteRange.{RouteRange}
 use Rattle.octets.specs.Scan.{from}
-use Rattle.lists.specs.Words.{maxAddresses, maxRanges, countOf, entryAt, rangeAt, entriesOf, rangesOf}
-use Rattle.lists.proofs.ListScans.{entries-within, ranges-within}
+use Rattle.lists.specs.Words.{countOf, entryAt, rangeAt, entriesOf, rangesOf}
 use Rattle.capsule.specs.Elements.{written}
 use Rattle.capsule.specs.Entries.{entryFormat, rangeFormat}
 use Rattle.capsule.specs.Capsules.{maxValue, frameBytes, capsuleBytes, datagram, assign, request, advertise}
 use Rattle.output.specs.Places.{Put}
-use Rattle.capsule_write.specs.Verdicts.{capsuleRoom, datagramVerdict, entriesVerdict, rangesVerdict, addressVerdict, routeVerdict}
+use Rattle.capsule_write.specs.Verdicts.{capsuleRoom, withRoom, valueLimit}
 use Rattle.output.proofs.Placing.{put-then, put-as, put-front}
 
 -- ---- the frame
@@ -61,13 +59,20 @@ written-same a b [] = refl
 written-same a b (e ∷ es) = rw (written-same a b es)
 
 -- the elements that the count says
-pub entries-frame : (kind : ℕ) (w : List ℕ) → countOf w ≤ maxAddresses
+pub entries-frame : (kind : ℕ) (w : List ℕ)
     → frameBytes kind (written (entryFormat false) (from (entryAt w) 0 (countOf w))) ≡ frameBytes kind (written (entryFormat false) (entriesOf w))
-entries-frame kind w h = ap (λ (es : List AddressEntry). frameBytes kind (written (entryFormat false) es)) (sym (entries-within w h))
+unfolding entriesOf
+entries-frame kind w = refl
 
-pub ranges-frame : (kind : ℕ) (w : List ℕ) → countOf w ≤ maxRanges
+pub ranges-frame : (kind : ℕ) (w : List ℕ)
     → frameBytes kind (written rangeFormat (from (rangeAt w) 0 (countOf w))) ≡ frameBytes kind (written rangeFormat (rangesOf w))
-ranges-frame kind w h = ap (λ (rs : List RouteRange). frameBytes kind (written rangeFormat rs)) (sym (ranges-within w h))
+unfolding rangesOf
+ranges-frame kind w = refl
+
+-- the entries of a request alone
+pub request-value : (w : List ℕ) → written (entryFormat false) (from (entryAt w) 0 (countOf w)) ≡ written (entryFormat true) (entriesOf w)
+unfolding entriesOf
+request-value w = written-same false true (from (entryAt w) 0 (countOf w))
 
 -- ---- what writing answers
 
@@ -84,38 +89,24 @@ module _ {m : List ℕ} {v : Verdict} where
 pub writes-as : {v : Verdict} {m n a b : List ℕ} {r : Answer} → m ≡ n → Writes v m a r b → Writes v n a r b
 writes-as e w = rw e at w
 
-module _ (v : List ℕ) (n : ℕ) where
-  pub datagram-no-room : n < capsuleRoom → datagramVerdict v n ≡ Stop NoRoom
-  unfolding datagramVerdict
-  datagram-no-room h = simp (lt-ltb _ _ h)
-
-  module _ (h : capsuleRoom ≤ n) where
-    pub datagram-too-long : maxValue < length v → datagramVerdict v n ≡ Stop TooLong
-    unfolding datagramVerdict
-    datagram-too-long g = simp (le-ltb _ _ h, lt-ltb _ _ g)
-
-    pub datagram-goes : length v ≤ maxValue → datagramVerdict v n ≡ Go
-    unfolding datagramVerdict
-    datagram-goes g = simp (le-ltb _ _ h, le-ltb _ _ g)
-
-module _ (asked : Bool) (w : List ℕ) (n : ℕ) where
-  pub address-no-room : n < capsuleRoom → addressVerdict asked w n ≡ Stop NoRoom
-  unfolding addressVerdict
-  address-no-room h = rw (lt-ltb n capsuleRoom h)
+module _ (n : ℕ) (j : Verdict) where
+  pub no-room : n < capsuleRoom → withRoom n j ≡ Stop NoRoom
+  unfolding withRoom
+  no-room h = rw (lt-ltb n capsuleRoom h)
 
   -- with room, what the judge says
-  pub address-says : capsuleRoom ≤ n → {v u : Verdict} → v ≡ entriesVerdict asked w → v ≡ u → addressVerdict asked w n ≡ u
-  unfolding addressVerdict
-  address-says h e g = rw (le-ltb n capsuleRoom h) (sym e ∙ g)
+  pub room-says : capsuleRoom ≤ n → {v u : Verdict} → v ≡ j → v ≡ u → withRoom n j ≡ u
+  unfolding withRoom
+  room-says h e g = rw (le-ltb n capsuleRoom h) (sym e ∙ g)
 
-module _ (w : List ℕ) (n : ℕ) where
-  pub route-no-room : n < capsuleRoom → routeVerdict w n ≡ Stop NoRoom
-  unfolding routeVerdict
-  route-no-room h = rw (lt-ltb n capsuleRoom h)
+module _ (v : List ℕ) where
+  pub value-over : maxValue < length v → valueLimit v ≡ Stop TooLong
+  unfolding valueLimit
+  value-over h = rw (lt-ltb maxValue (length v) h)
 
-  pub route-says : capsuleRoom ≤ n → {v u : Verdict} → v ≡ rangesVerdict w → v ≡ u → routeVerdict w n ≡ u
-  unfolding routeVerdict
-  route-says h e g = rw (le-ltb n capsuleRoom h) (sym e ∙ g)
+  pub value-goes : length v ≤ maxValue → valueLimit v ≡ Go
+  unfolding valueLimit
+  value-goes h = rw (le-ltb maxValue (length v) h)
 
 -- ---- the capsules
 

@@ -11,10 +11,10 @@ use Rattle.varint.specs.Numbers.{limit}
 use Rattle.lists.specs.declared.AddressEntry.{AddressEntry}
 use Rattle.octets.specs.Scan.{from, allOf}
 use Rattle.lists.specs.Rules.{idOf, soundEntry}
-use Rattle.lists.specs.Words.{countOf, entryAt, soundAddresses}
+use Rattle.lists.specs.Words.{countOf, entryAt, entriesOf, soundAddresses}
 use Rattle.octets.proofs.Scans.{from-more, from-end}
 use Rattle.lists.proofs.EntryRule.{entry-facts}
-use Rattle.lists.proofs.ListScans.{entries-within, addresses-facts}
+use Rattle.lists.proofs.ListScans.{addresses-facts}
 use Rattle.capsule.specs.Elements.{Format, written}
 use Rattle.output.specs.Places.{Put}
 use Rattle.output.proofs.Placing.{put-none, put-then}
@@ -102,5 +102,6 @@ sound-id w n i {e} s h q =
     let a : soundEntry (entryAt w i) ≡ true = rw z at (all-at soundEntry (entryAt w) 0 n i s h) in
     entry-facts e (rw q a) .id
 
-pub sound-stored : (w : List ℕ) → soundAddresses w ≡ true → allOf soundEntry (from (entryAt w) 0 (countOf w)) ≡ true
-sound-stored w s = let f = addresses-facts w s in ap (allOf soundEntry) (sym (entries-within w (f .0))) ∙ f .1
+pub sound-stored : (w : List ℕ) → soundAddresses (entriesOf w) ≡ true → allOf soundEntry (from (entryAt w) 0 (countOf w)) ≡ true
+unfolding entriesOf
+sound-stored w s = addresses-facts (entriesOf w) s .1

@@ -1,5 +1,5 @@
 -- Capsules as they are written, and lists that are not, computed.
-use Prim.Native.Nat.{ℕ, _+_, _*_}
+use Prim.Native.Nat.{ℕ, _+_, _-_, _*_}
 use mathlib.Core.Bool.{true, false}
 use mathlib.Core.Path.{_≡_, refl}
 use mathlib.Core.List.{List, [], _∷_}
@@ -13,7 +13,7 @@ use Rattle.lists.specs.Rules.{soundEntry, soundRange, inOrder}
 use Rattle.lists.specs.Words.{maxAddresses, entryAt, rangeAt, entriesOf, rangesOf, entryWords, packEntries, packRanges}
 use Rattle.capsule.specs.Entries.{entryBytes, rangeBytes, entryFollows, rangeFollows}
 use Rattle.capsule.specs.Capsules.{datagram, assign, advertise, capsuleBytes}
-use Rattle.capsule_write.specs.Verdicts.{capsuleRoom, entriesVerdict, rangesVerdict, addressVerdict, routeVerdict}
+use Rattle.capsule_write.specs.Verdicts.{capsuleRoom, withRoom, entriesVerdict, rangesVerdict}
 
 -- the IPv4 address of four bytes
 ipv4 : ℕ → ℕ → ℕ → ℕ → ℕ
@@ -40,8 +40,8 @@ range4 p a =
 assigned : List ℕ
 assigned = packEntries (entry4 0 32 ∷ [])
 
-assignment-goes : addressVerdict false assigned capsuleRoom ≡ Go
-unfolding addressVerdict entriesVerdict entryAt entryFollows soundEntry packEntries assigned entry4 ipv4
+assignment-goes : withRoom capsuleRoom (entriesVerdict false assigned) ≡ Go
+unfolding withRoom entriesVerdict entryAt entryFollows soundEntry packEntries assigned entry4 ipv4
 assignment-goes = refl
 
 -- 192.0.2.3/32, ID 0
@@ -56,8 +56,8 @@ no-assignment-bytes = refl
 advertised : List ℕ
 advertised = packRanges (range4 17 2 ∷ [])
 
-advertisement-goes : routeVerdict advertised capsuleRoom ≡ Go
-unfolding routeVerdict rangesVerdict rangeAt rangeFollows soundRange inOrder packRanges advertised range4 ipv4
+advertisement-goes : withRoom capsuleRoom (rangesVerdict advertised) ≡ Go
+unfolding withRoom rangesVerdict rangeAt rangeFollows soundRange inOrder packRanges advertised range4 ipv4
 advertisement-goes = refl
 
 -- UDP to 198.51.100.2
@@ -72,43 +72,43 @@ datagram-bytes = refl
 
 -- ---- refused
 
-one-byte-less : addressVerdict false assigned 4103 ≡ Stop NoRoom
-unfolding addressVerdict
+one-byte-less : withRoom (capsuleRoom - 1) (entriesVerdict false assigned) ≡ Stop NoRoom
+unfolding withRoom
 one-byte-less = refl
 
-empty-request : addressVerdict true (packEntries []) capsuleRoom ≡ Stop BadRequestId
-unfolding addressVerdict entriesVerdict packEntries
+empty-request : withRoom capsuleRoom (entriesVerdict true (packEntries [])) ≡ Stop BadRequestId
+unfolding withRoom entriesVerdict packEntries
 empty-request = refl
 
-zero-id : addressVerdict true assigned capsuleRoom ≡ Stop BadRequestId
-unfolding addressVerdict entriesVerdict entryAt entryFollows soundEntry packEntries assigned entry4 ipv4
+zero-id : withRoom capsuleRoom (entriesVerdict true assigned) ≡ Stop BadRequestId
+unfolding withRoom entriesVerdict entryAt entryFollows soundEntry packEntries assigned entry4 ipv4
 zero-id = refl
 
 -- an ID again after another one; only a request refuses it
 repeated : List ℕ
 repeated = packEntries (entry4 5 32 ∷ entry4 6 32 ∷ entry4 5 32 ∷ [])
 
-repeated-id : addressVerdict true repeated capsuleRoom ≡ Stop BadRequestId
-unfolding addressVerdict entriesVerdict entryAt entryFollows soundEntry packEntries repeated entry4 ipv4
+repeated-id : withRoom capsuleRoom (entriesVerdict true repeated) ≡ Stop BadRequestId
+unfolding withRoom entriesVerdict entryAt entryFollows soundEntry packEntries repeated entry4 ipv4
 repeated-id = refl
 
-repeated-assignment : addressVerdict false repeated capsuleRoom ≡ Go
-unfolding addressVerdict entriesVerdict entryAt entryFollows soundEntry packEntries repeated entry4 ipv4
+repeated-assignment : withRoom capsuleRoom (entriesVerdict false repeated) ≡ Go
+unfolding withRoom entriesVerdict entryAt entryFollows soundEntry packEntries repeated entry4 ipv4
 repeated-assignment = refl
 
 -- the words of sixteen entries under a count of 17: a fault of theirs comes first
 seventeen : AddressEntry → List ℕ
 seventeen e = 17 ∷ entryWords maxAddresses (replicate 16 e)
 
-too-many : addressVerdict false (seventeen (entry4 0 32)) capsuleRoom ≡ Stop TooMany
-unfolding addressVerdict entriesVerdict entryAt entryFollows soundEntry seventeen entry4 ipv4
+too-many : withRoom capsuleRoom (entriesVerdict false (seventeen (entry4 0 32))) ≡ Stop TooMany
+unfolding withRoom entriesVerdict entryAt entryFollows soundEntry seventeen entry4 ipv4
 too-many = refl
 
-broken-first : addressVerdict false (seventeen (entry4 0 24)) capsuleRoom ≡ Stop BadAddress
-unfolding addressVerdict entriesVerdict entryAt entryFollows soundEntry seventeen entry4 ipv4
+broken-first : withRoom capsuleRoom (entriesVerdict false (seventeen (entry4 0 24))) ≡ Stop BadAddress
+unfolding withRoom entriesVerdict entryAt entryFollows soundEntry seventeen entry4 ipv4
 broken-first = refl
 
 -- UDP and then all protocols
-out-of-order : routeVerdict (packRanges (range4 17 2 ∷ range4 0 3 ∷ [])) capsuleRoom ≡ Stop RangesOutOfOrder
-unfolding routeVerdict rangesVerdict rangeAt rangeFollows soundRange inOrder packRanges range4 ipv4
+out-of-order : withRoom capsuleRoom (rangesVerdict (packRanges (range4 17 2 ∷ range4 0 3 ∷ []))) ≡ Stop RangesOutOfOrder
+unfolding withRoom rangesVerdict rangeAt rangeFollows soundRange inOrder packRanges range4 ipv4
 out-of-order = refl

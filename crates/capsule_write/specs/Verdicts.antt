@@ -1,28 +1,36 @@
 -- Why a capsule is not written: the first fault, in the order of reading.
-use Prim.Native.Nat.{ℕ, min}
-use mathlib.Core.Bool.{Bool, false}
-use mathlib.Core.List.{List, [], _∷_}
+use Prim.Native.Nat.{ℕ, _+_, min}
+use mathlib.Core.Bool.{Bool, true, false}
+use mathlib.Core.List.{List, []}
 use lib.Dec.{ltb}
 use lib.ListN.{length}
 use Rattle.answer.specs.declared.Refusal.the-variants.{NoRoom, TooLong}
 use Rattle.answer.specs.declared.Verdict.{Verdict}
 use Rattle.answer.specs.declared.Verdict.the-variants.{Go}
-use Rattle.answer.specs.Verdict.{stopIf, _then_, _⇒_, firstOf}
+use Rattle.answer.specs.declared.Answer.{Answer}
+use Rattle.answer.specs.Verdict.{stopIf, _then_, Writes}
 use Rattle.lists.specs.declared.AddressEntry.{AddressEntry}
 use Rattle.lists.specs.declared.RouteRange.{RouteRange}
 use Rattle.octets.specs.Scan.{from}
-use Rattle.lists.specs.Words.{maxAddresses, maxRanges, countOf, entryAt, rangeAt}
-use Rattle.capsule.specs.Elements.{judged, countVerdict}
+use Rattle.lists.specs.Words.{maxAddresses, maxRanges, countOf, entryAt, rangeAt, entriesOf, rangesOf}
+use Rattle.capsule.specs.Elements.{judged, countVerdict, written}
 use Rattle.capsule.specs.Entries.{entryFormat, rangeFormat}
-use Rattle.capsule.specs.Capsules.{maxValue}
+use Rattle.capsule.specs.Capsules.{maxValue, frameBytes, capsuleBytes, datagram, assign, request, advertise}
 
--- the least output that a capsule is written to
+-- room for type and length, and the least output that a capsule is written to
+abbrev pub headerRoom : ℕ
+headerRoom = 8
+
 abbrev pub capsuleRoom : ℕ
-capsuleRoom = 4104
+capsuleRoom = maxValue + headerRoom
+
+-- too small an output of n bytes comes first
+unfoldable pub withRoom : ℕ → Verdict → Verdict
+withRoom n v = stopIf (ltb n capsuleRoom) NoRoom v
 
 -- a value over the limit
-unfoldable pub datagramVerdict : List ℕ → ℕ → Verdict
-datagramVerdict v n = firstOf ((ltb n capsuleRoom ⇒ NoRoom) ∷ (ltb maxValue (length v) ⇒ TooLong) ∷ [])
+unfoldable pub valueLimit : List ℕ → Verdict
+valueLimit v = stopIf (ltb maxValue (length v)) TooLong Go
 
 -- the elements that the words hold, whatever the count says
 abbrev pub storedEntries : List ℕ → List AddressEntry
@@ -33,14 +41,31 @@ storedRanges w = from (rangeAt w) 0 (min (countOf w) maxRanges)
 
 -- the first fault of the stored elements, and then of the count: an empty request, a list over its limit
 unfoldable pub entriesVerdict : Bool → List ℕ → Verdict
-entriesVerdict request w = judged (entryFormat request) [] (storedEntries w) then countVerdict request maxAddresses (countOf w)
+entriesVerdict asked w = judged (entryFormat asked) [] (storedEntries w) then countVerdict asked maxAddresses (countOf w)
 
 unfoldable pub rangesVerdict : List ℕ → Verdict
 rangesVerdict w = judged rangeFormat [] (storedRanges w) then countVerdict false maxRanges (countOf w)
 
--- to an output of n bytes
-unfoldable pub addressVerdict : Bool → List ℕ → ℕ → Verdict
-addressVerdict request w n = stopIf (ltb n capsuleRoom) NoRoom (entriesVerdict request w)
+-- ---- what writing answers, and what it leaves in the output
 
-unfoldable pub routeVerdict : List ℕ → ℕ → Verdict
-routeVerdict w n = stopIf (ltb n capsuleRoom) NoRoom (rangesVerdict w)
+abbrev pub DatagramWritten : List ℕ → List ℕ → Answer → List ℕ → Type 0
+DatagramWritten v before r after = Writes (withRoom (length before) (valueLimit v)) (capsuleBytes (datagram v)) before r after
+
+-- entries as a capsule of a type that holds them
+abbrev pub EntriesWritten : ℕ → Bool → List ℕ → List ℕ → Answer → List ℕ → Type 0
+EntriesWritten kind asked w before r after =
+    Writes (withRoom (length before) (entriesVerdict asked w)) (frameBytes kind (written (entryFormat asked) (entriesOf w))) before r after
+
+abbrev pub AssignWritten : List ℕ → List ℕ → Answer → List ℕ → Type 0
+AssignWritten w before r after = Writes (withRoom (length before) (entriesVerdict false w)) (capsuleBytes (assign (entriesOf w))) before r after
+
+abbrev pub RequestWritten : List ℕ → List ℕ → Answer → List ℕ → Type 0
+RequestWritten w before r after = Writes (withRoom (length before) (entriesVerdict true w)) (capsuleBytes (request (entriesOf w))) before r after
+
+-- its value alone
+abbrev pub RequestValueWritten : List ℕ → List ℕ → Answer → List ℕ → Type 0
+RequestValueWritten w before r after =
+    Writes (withRoom (length before) (entriesVerdict true w)) (written (entryFormat true) (entriesOf w)) before r after
+
+abbrev pub RoutesWritten : List ℕ → List ℕ → Answer → List ℕ → Type 0
+RoutesWritten w before r after = Writes (withRoom (length before) (rangesVerdict w)) (capsuleBytes (advertise (rangesOf w))) before r after

@@ -1,25 +1,25 @@
 // The first fault of a list that is to be written, in the order of reading.
 use answer::Refusal;
 use answer::Verdict;
-use lists::ADDRESS_WORDS;
 use lists::MAX_ADDRESSES;
 use lists::MAX_RANGES;
-use lists::ROUTE_WORDS;
 ghost use mathlib.Core.Path.{_≡_};
 ghost use mathlib.Core.Bool.{false, _&&_, _||_};
 ghost use mathlib.Core.List.{[]};
 ghost use Prim.Native.Nat.{_≤_, min};
 ghost use lib.Dec.{eqb};
+ghost use lib.ListN.{length};
 ghost use Rattle.octets.specs.Scan.{from, anyOf};
 ghost use Rattle.lists.specs.Rules.{idOf};
-ghost use Rattle.lists.specs.Words.{maxAddresses, maxRanges, entryAt, rangeAt};
+ghost use Rattle.lists.specs.Words.{maxAddresses, maxRanges, addressWords, routeWords, entryAt, rangeAt};
 ghost use Rattle.capsule.specs.Elements.{judged, countVerdict};
 ghost use Rattle.capsule.specs.Entries.{entryFormat, rangeFormat};
 ghost use Rattle.capsule_write.specs.Earlier.{earlier};
 ghost use Rattle.capsule_write.specs.Verdicts.{entriesVerdict, rangesVerdict};
 
 // Of the entries of a request, or else of an assignment.
-pub(crate) fn entries_verdict(w: &[u64; ADDRESS_WORDS], request: bool) -> Verdict
+pub(crate) fn entries_verdict(w: &[u64], request: bool) -> Verdict
+    requires { ⌜ addressWords ≤ length (now w) ⌝ }
     ensures { λ r. ⌜ r ≡ entriesVerdict request (now (w .entry)) ⌝ }
 {
     let count = w[0];
@@ -32,7 +32,8 @@ pub(crate) fn entries_verdict(w: &[u64; ADDRESS_WORDS], request: bool) -> Verdic
 }
 
 // Of the ranges of an advertisement.
-pub(crate) fn ranges_verdict(w: &[u64; ROUTE_WORDS]) -> Verdict
+pub(crate) fn ranges_verdict(w: &[u64]) -> Verdict
+    requires { ⌜ routeWords ≤ length (now w) ⌝ }
     ensures { λ r. ⌜ r ≡ rangesVerdict (now (w .entry)) ⌝ }
 {
     let count = w[0];
@@ -71,7 +72,8 @@ fn count_verdict(asked: bool, limit: usize, count: u64) -> Verdict
 }
 
 // Of the first n entries, each by itself and against those before it.
-fn entries_fault(w: &[u64; ADDRESS_WORDS], n: usize, request: bool) -> Verdict
+fn entries_fault(w: &[u64], n: usize, request: bool) -> Verdict
+    requires { ⌜ addressWords ≤ length (now w) ⌝ }
     requires { ⌜ n ≤ maxAddresses ⌝ }
     ensures { λ r. ⌜ r ≡ judged (entryFormat request) [] (from (entryAt (now (w .entry))) 0 n) ⌝ }
 {
@@ -91,7 +93,8 @@ fn entries_fault(w: &[u64; ADDRESS_WORDS], n: usize, request: bool) -> Verdict
 }
 
 // Whether the Request ID of entry i of a request is zero, or that of an entry before it.
-fn id_refused(w: &[u64; ADDRESS_WORDS], i: usize, request: bool, id: u64) -> bool
+fn id_refused(w: &[u64], i: usize, request: bool, id: u64) -> bool
+    requires { ⌜ addressWords ≤ length (now w) ⌝ }
     requires { ⌜ i ≤ maxAddresses ⌝ }
     ensures { λ r. ⌜ r ≡ (request && (eqb id 0 || anyOf (λ d. eqb (idOf d) id) (earlier (entryAt (now (w .entry))) i))) ⌝ }
 {
@@ -114,7 +117,8 @@ fn id_refused(w: &[u64; ADDRESS_WORDS], i: usize, request: bool, id: u64) -> boo
 }
 
 // Of the first n ranges, each by itself and after the one before it.
-fn ranges_fault(w: &[u64; ROUTE_WORDS], n: usize) -> Verdict
+fn ranges_fault(w: &[u64], n: usize) -> Verdict
+    requires { ⌜ routeWords ≤ length (now w) ⌝ }
     requires { ⌜ n ≤ maxRanges ⌝ }
     ensures { λ r. ⌜ r ≡ judged rangeFormat [] (from (rangeAt (now (w .entry))) 0 n) ⌝ }
 {

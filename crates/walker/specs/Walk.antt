@@ -5,25 +5,24 @@ use mathlib.Core.Bool.{true}
 use mathlib.Core.List.{List, [], _∷_, _++_}
 use lib.ListN.{length}
 use denote.Ref.{RefT}
-use Rattle.capsule.specs.declared.Outcome.{Outcome}
 use Rattle.capsule.specs.declared.CapsuleRead.{CapsuleRead}
-use Rattle.capsule.specs.Capsules.{Capsule, unknown, capsuleBytes}
-use Rattle.capsule.specs.Results.{nextPlace, handed, readAt}
-use Rattle.capsule.specs.Sound.{startOf, Sound, inWords}
+use Rattle.capsule.specs.Capsules.{Capsule, unknown, kindOf, capsuleBytes}
+use Rattle.capsule.specs.Results.{foundAt, readAt}
+use Rattle.capsule.specs.Sound.{valueOf, valueStart, Sound, inWords}
 use Rattle.walker.specs.declared.Walker.{Walker}
 
 -- a walker over lent bytes, at a place
 abbrev pub walkerAt : RefT (List ℕ) → ℕ → Walker
 walkerAt bytes at = record { bytes = bytes; at = at }
 
--- the walker behind the capsule of an outcome
-abbrev pub behind : Walker → Outcome → Walker
-behind w o = walkerAt (w .bytes) (nextPlace (w .at) o)
+-- the walker behind a capsule that was read
+abbrev pub behind : Walker → CapsuleRead → Walker
+behind w r = walkerAt (w .bytes) (r .next)
 
--- what n readings from a place on hand back, each behind the one before: `next`, then `after` its outcome
+-- what n readings from a place on hand back, each behind the one before: `next`, then `after` it
 unfoldable pub walk : ℕ → List ℕ → ℕ → List CapsuleRead
 walk zero s at = []
-walk (suc n) s at = readAt s at ∷ walk n s (nextPlace at (readAt s at .outcome))
+walk (suc n) s at = readAt s at ∷ walk n s (readAt s at .next)
 
 -- ---- several capsules in a buffer
 
@@ -32,10 +31,10 @@ abbrev pub capsulesBytes : List Capsule → List ℕ
 capsulesBytes [] = []
 capsulesBytes (c ∷ cs) = capsuleBytes c ++ capsulesBytes cs
 
--- what is handed back of each, the first at a place: the places are the running sums of the sizes
-abbrev pub handedAll : ℕ → List Capsule → List CapsuleRead
-handedAll at [] = []
-handedAll at (c ∷ cs) = handed at c (startOf c) (length (capsuleBytes c)) ∷ handedAll (at + length (capsuleBytes c)) cs
+-- what is found of each, the first at a place: the places are the running sums of the sizes
+abbrev pub foundAll : ℕ → List Capsule → List CapsuleRead
+foundAll at [] = []
+foundAll at (c ∷ cs) = foundAt at (kindOf c) (valueStart c) (length (valueOf c)) ∷ foundAll (at + length (capsuleBytes c)) cs
 
 -- contents that are written as they are: the rules are kept, each half of an address is a word, and the type is one that is written
 pub record Writable (c : Capsule) : Type 0 where

@@ -1,15 +1,11 @@
 // The capsules of a lent buffer, one after the other (document 01: "the reader keeps the lent bytes and its place together").
-// A walker is thin: it is taken apart, and a function over a slice and a place does the work (`capsule::read`, `exchange::read_capsule`).
-// It refuses as they do. With no bytes left the answer is 1, and a refusal leaves the place.
+// A walker is thin: it is taken apart, and `capsule::read` does the work over a slice and a place, and refuses. With no bytes left the answer
+// is 1, and a refusal leaves the place.
 use capsule::CapsuleRead;
-use capsule::Outcome;
-use exchange::GrantsRead;
-use grant::Grants;
 ghost use mathlib.Core.Path.{_≡_};
 ghost use Prim.Native.Nat.{_-_};
 ghost use lib.ListN.{length};
 ghost use Rattle.capsule.specs.Results.{readAt};
-ghost use Rattle.exchange.specs.Exchange.{readGrants};
 ghost use Rattle.walker.specs.Walk.{walkerAt, behind};
 
 pub struct Walker<'a> {
@@ -42,20 +38,13 @@ impl<'a> Walker<'a> {
         capsule::read(self.bytes, self.at)
     }
 
-    // What stands next, and the state with the list that it replaces.
-    pub fn read_capsule(self, grants: Grants) -> GrantsRead
-        ensures { λ r. ⌜ r ≡ readGrants grants (now (self .entry .bytes)) (self .entry .at) ⌝ }
-    {
-        exchange::read_capsule(grants, self.bytes, self.at)
-    }
-
-    // Behind the capsule of an outcome: a refusal leaves the walker where it is.
-    pub fn after(self, outcome: Outcome) -> Walker<'a>
-        ensures { λ r. ⌜ r ≡ behind (self .entry) outcome ⌝ }
+    // Behind the capsule that was read: a refusal leaves the walker where it is.
+    pub fn after(self, read: CapsuleRead) -> Walker<'a>
+        ensures { λ r. ⌜ r ≡ behind (self .entry) read ⌝ }
     {
         Walker {
             bytes: self.bytes,
-            at: outcome.next_place(self.at),
+            at: read.next,
         }
     }
 

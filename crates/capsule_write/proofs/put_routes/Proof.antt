@@ -6,8 +6,8 @@ use borrow.Author.Needs.{needs}
 use Rattle.capsule_write.proofs.put_routes.Statement.{statement}
 use Rattle.capsule_write.proofs.put_routes.Tie as tie
 
-element-copy-out-n : tie.Need-element-copy-out-n
-element-copy-out-n c = search needs
+shared-slice-read-n : tie.Need-shared-slice-read-n
+shared-slice-read-n c = search needs
 
 ranges-size-requires : tie.Need-ranges-size-requires
 ranges-size-requires c κs = search needs
@@ -18,22 +18,22 @@ put-header-requires c κs = search needs
 put-ranges-requires : tie.Need-put-ranges-requires
 put-ranges-requires c κs =
     let h = Frames.header-most 3 (c .before .before .before .before .before .ranges-size .result) (omega arith) (omega arith) in
-    (c .before .before .before .before .before .before .before .before .pre .0, omega arith)
+    (search needs, (c .before .before .before .before .before .before .before .before .before .pre .1 .0, omega arith))
 
 same-length : tie.Need-same-length
 same-length c = search needs
 
 returns : tie.Need-returns
 returns c =
-    let a = c .before .before .before .before .before .before .before .before .before .before .before .args in
-    put-as (Frames.ranges-frame 3 (a .w .now) (c .before .before .before .before .before .before .before .before .before .before .before .pre .0))
+    let a = c .before .before .before .before .before .before .before .before .before .before .before .before .args in
+    put-as (Frames.ranges-frame 3 (a .w .now))
     (Frames.put-frame 3 (c .before .before .before .before .before .before .before .before .ranges-size .ensures .0) (c .before .before .before .before .before .before .put-header .ensures) (c .before .before .put-ranges .ensures))
 
 pub put-routes-spec : {M : Type 1} → statement M
 put-routes-spec =
     tie.close
     (tie.spec
-    element-copy-out-n
+    shared-slice-read-n
     ranges-size-requires
     put-header-requires
     put-ranges-requires

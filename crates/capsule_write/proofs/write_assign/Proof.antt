@@ -12,7 +12,7 @@ same-length c = search needs
 
 returns : tie.Need-returns
 returns c =
-    writes-as (assign-frame (c .before .before .before .before .before .before .before .args .list .words)) (c .before .before .write-addresses .ensures)
+    writes-as (assign-frame (c .before .before .before .before .before .before .args .list .now)) (c .before .before .write-addresses .ensures)
 
 pub write-assign-spec : {M : Type 1} → statement M
 write-assign-spec = tie.close (tie.spec write-addresses-requires same-length returns)

@@ -9,10 +9,10 @@ use Rattle.capsule_write.proofs.write_datagram.Statement.{statement}
 use Rattle.capsule_write.proofs.write_datagram.Tie as tie
 
 returns : tie.Need-returns
-returns c = Frames.refused (Frames.datagram-no-room _ _ (omega arith))
+returns c = Frames.refused (Frames.no-room _ _ (omega arith))
 
 returns-2 : tie.Need-returns-2
-returns-2 c = Frames.refused (Frames.datagram-too-long _ _ (omega arith) (omega arith))
+returns-2 c = Frames.refused (Frames.room-says _ _ (omega arith) refl (Frames.value-over _ (omega arith)))
 
 put-header-requires : tie.Need-put-header-requires
 put-header-requires c κs = search needs
@@ -28,7 +28,7 @@ same-length c = search needs
 returns-3 : tie.Need-returns-3
 returns-3 c =
     let v = c .before .before .before .before .before .before .before .before .before .before .before .before .args .value .now in
-    Frames.wrote (Frames.datagram-goes _ _ (omega arith) (omega arith))
+    Frames.wrote (Frames.room-says _ _ (omega arith) refl (Frames.value-goes _ (omega arith)))
     (put-as (Frames.datagram-frame v) (Frames.put-frame 0 refl (c .before .before .before .before .before .before .put-header .ensures) (c .before .before .put-bytes .ensures)))
 
 pub write-datagram-spec : {M : Type 1} → statement M

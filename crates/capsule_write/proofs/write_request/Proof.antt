@@ -12,7 +12,7 @@ same-length c = search needs
 
 returns : tie.Need-returns
 returns c =
-    writes-as (request-frame (c .before .before .before .before .before .before .before .args .list .words)) (c .before .before .write-addresses .ensures)
+    writes-as (request-frame (c .before .before .before .before .before .before .args .list .now)) (c .before .before .write-addresses .ensures)
 
 pub write-request-spec : {M : Type 1} → statement M
 write-request-spec = tie.close (tie.spec write-addresses-requires same-length returns)

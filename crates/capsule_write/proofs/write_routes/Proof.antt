@@ -9,7 +9,7 @@ use Rattle.capsule_write.proofs.write_routes.Statement.{statement}
 use Rattle.capsule_write.proofs.write_routes.Tie as tie
 
 returns : tie.Need-returns
-returns c = Frames.refused (Frames.route-no-room _ _ (omega arith))
+returns c = Frames.refused (Frames.no-room _ _ (omega arith))
 
 ranges-verdict-requires : tie.Need-ranges-verdict-requires
 ranges-verdict-requires c κs = search needs
@@ -19,8 +19,8 @@ enum-told c = search needs
 
 put-routes-requires : tie.Need-put-routes-requires
 put-routes-requires c κs =
-    let go = ranges-go (c .before .before .before .before .before .before .before .before .before .args .list .words) (sym (c .before .before .before .before .ranges-verdict .ensures) ∙ c .before .before .enum-told .given .1) in
-    (go .within, omega arith)
+    let go = ranges-go (c .before .before .before .before .before .before .before .before .args .list .now) (sym (c .before .before .before .before .ranges-verdict .ensures) ∙ c .before .before .enum-told .given .1) in
+    (search needs, (go .within, omega arith))
 
 enum-known-verdict : tie.Need-enum-known-verdict
 enum-known-verdict c = search needs
@@ -30,12 +30,12 @@ same-length c = search needs
 
 returns-2 : tie.Need-returns-2
 returns-2 c =
-    Frames.wrote (Frames.route-says _ _ (omega arith) (c .before .before .before .before .before .before .before .ranges-verdict .ensures) (c .before .before .before .before .before .enum-told .given .1))
-    (put-as (Frames.advertise-frame (c .before .before .before .before .before .before .before .before .before .before .before .before .args .list .words)) (c .before .before .put-routes .ensures))
+    Frames.wrote (Frames.room-says _ _ (omega arith) (c .before .before .before .before .before .before .before .ranges-verdict .ensures) (c .before .before .before .before .before .enum-told .given .1))
+    (put-as (Frames.advertise-frame (c .before .before .before .before .before .before .before .before .before .before .before .args .list .now)) (c .before .before .put-routes .ensures))
 
 returns-3 : tie.Need-returns-3
 returns-3 c =
-    Frames.refused (Frames.route-says _ _ (omega arith) (c .before .before .before .ranges-verdict .ensures) (c .before .verdict .given .1))
+    Frames.refused (Frames.room-says _ _ (omega arith) (c .before .before .before .ranges-verdict .ensures) (c .before .verdict .given .1))
 
 pub write-routes-spec : {M : Type 1} → statement M
 write-routes-spec =

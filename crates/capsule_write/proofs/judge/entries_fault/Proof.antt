@@ -33,7 +33,7 @@ id-refused-requires c κs = search needs
 
 returns-2 : tie.Need-returns-2 Inv-loop μ-loop
 returns-2 c =
-    let a = c .before .before .before .before .before .before .before .before .args in
+    let a = c .before .before .before .before .before .before .before .before .before .args in
     Judging.judge-refused (c .before .before .before .before .before .before .before .loop .inv) (c .before .before .before .before .before .before .loop-test .taken) (c .before .before .before .before .before .entry-at .ensures)
     (called-true (c .before .before .before .before .entry-sound .ensures) (c .before .before .before .if1 .left))
     (Judging.follows-refused (a .w .now) (c .before .before .before .before .before .before .before .loop .i) (a .request) (c .before .before .before .before .before .entry-at .result) (c .before .id-refused .ensures) (c .if2 .taken))
@@ -46,7 +46,7 @@ loop-less c = search needs
 
 loop-again : tie.Need-loop-again Inv-loop μ-loop
 loop-again c =
-    let a = c .before .before .before .before .before .before .before .before .args in
+    let a = c .before .before .before .before .before .before .before .before .before .args in
     Judging.judge-next (c .before .before .before .before .before .before .before .loop .inv) (c .before .before .before .before .before .before .loop-test .taken) (c .before .before .before .before .before .entry-at .ensures)
     (called-true (c .before .before .before .before .entry-sound .ensures) (c .before .before .before .if1 .left))
     (Judging.follows-go (a .w .now) (c .before .before .before .before .before .before .before .loop .i) (a .request) (c .before .before .before .before .before .entry-at .result) (c .before .id-refused .ensures) (c .if2 .left))

@@ -4,8 +4,8 @@ use borrow.Author.Needs.{needs}
 use Rattle.capsule_write.proofs.judge.entries_verdict.Statement.{statement}
 use Rattle.capsule_write.proofs.judge.entries_verdict.Tie as tie
 
-element-copy-out-count : tie.Need-element-copy-out-count
-element-copy-out-count c = search needs
+shared-slice-read-count : tie.Need-shared-slice-read-count
+shared-slice-read-count c = search needs
 
 at-most-requires : tie.Need-at-most-requires
 at-most-requires c κs = search needs
@@ -24,20 +24,20 @@ enum-known-fault c = search needs
 
 returns : tie.Need-returns
 returns c =
-    let a = c .before .before .before .before .before .before .args in
+    let a = c .before .before .before .before .before .before .before .args in
     Judging.entries-counted (a .request) (a .w .now) (c .before .before .before .before .at-most .ensures) (c .before .before .before .entries-fault .ensures) (c .before .enum-told .given .1)
     (c .count-verdict .ensures)
 
 returns-2 : tie.Need-returns-2
 returns-2 c =
-    let a = c .before .before .before .before .before .before .args in
+    let a = c .before .before .before .before .before .before .before .args in
     Judging.entries-fault (a .request) (a .w .now) (c .before .before .before .before .at-most .ensures) (c .before .before .before .entries-fault .ensures) (c .before .fault .given .1)
 
 pub entries-verdict-spec : {M : Type 1} → statement M
 entries-verdict-spec =
     tie.close
     (tie.spec
-    element-copy-out-count
+    shared-slice-read-count
     at-most-requires
     entries-fault-requires
     enum-told

@@ -13,17 +13,17 @@ abbrev μ-loop : tie.MeasureT-loop
 
 returns : tie.Need-returns Inv-loop μ-loop
 returns c =
-    let a = c .before .args in
+    let a = c .before .before .args in
     Judging.id-unasked (a .w .now) (a .i) (a .request) (a .id) (c .if1 .taken)
 
 returns-2 : tie.Need-returns-2 Inv-loop μ-loop
 returns-2 c =
-    let a = c .before .before .args in
+    let a = c .before .before .before .args in
     Judging.id-zero (a .w .now) (a .i) (a .request) (a .id) (c .before .if1 .left) (c .if2 .taken)
 
 loop-holds : tie.Need-loop-holds Inv-loop μ-loop
 loop-holds c =
-    let a = c .before .before .args in
+    let a = c .before .before .before .args in
     Judging.look-start (a .w .now) (a .i) (a .request) (a .id) (c .before .if1 .left) (c .if2 .left)
 
 sub-k : tie.Need-sub-k Inv-loop μ-loop

@@ -25,8 +25,8 @@ entry-at-requires c κs = search needs
 
 put-entry-bytes-requires : tie.Need-put-entry-bytes-requires Inv-loop μ-loop
 put-entry-bytes-requires c κs =
-    let a = c .before .before .before .before .before .args in
-    (Values.sound-id (a .w .now) (a .n) _ (c .before .before .before .before .before .pre .1 .0) (c .before .before .loop-test .taken) (c .before .entry-at .ensures), omega arith)
+    let a = c .before .before .before .before .before .before .args in
+    (Values.sound-id (a .w .now) (a .n) _ (c .before .before .before .before .before .before .pre .1 .1 .0) (c .before .before .loop-test .taken) (c .before .entry-at .ensures), omega arith)
 
 add-i : tie.Need-add-i Inv-loop μ-loop
 add-i c = search needs
