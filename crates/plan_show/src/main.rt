@@ -3,9 +3,13 @@
 use answer::Verdict;
 use libc::STDIN_FILENO;
 use libc::STDOUT_FILENO;
-use plan::Plan;
-use plan::Template;
+use table::MAX_SEGMENTS;
+use table::MAX_TEMPLATES;
+use table::TABLE_WORDS;
+use table::TEMPLATE_WORDS;
 ghost use Prim.Native.Nat.{_≤_};
+ghost use lib.ListN.{length};
+ghost use Rattle.table.specs.Words.{templateWords, tableWords};
 
 fn main() {
     let mut space = [0u8; 4096];
@@ -14,13 +18,10 @@ fn main() {
 }
 
 fn show(bytes: &[u8]) {
-    let r = plan::read_plan(bytes);
-    let verdict = r.verdict;
+    let mut words = [0u64; TABLE_WORDS];
+    let verdict = table::read_plan(bytes, &mut words);
     match verdict {
-        Verdict::Go => {
-            let found = r.plan;
-            show_plan(found);
-        }
+        Verdict::Go => show_table(&words),
         Verdict::Stop(why) => {
             text(b"refused ");
             decimal(why.number() as u64);
@@ -29,47 +30,58 @@ fn show(bytes: &[u8]) {
     }
 }
 
-fn show_plan(found: Plan) {
-    let count = found.count;
+fn show_table(w: &[u64; TABLE_WORDS]) {
     text(b"plan 1 templates ");
-    decimal(count as u64);
+    decimal(w[0]);
     text(b"\n");
+    show_templates(w);
+}
+
+fn show_templates(w: &[u64])
+    requires { ⌜ tableWords ≤ length (now w) ⌝ }
+{
+    let count = w[0] as usize;
     let mut i: usize = 0;
-    while i < count {
-        if i < plan::MAX_TEMPLATES {
-            let t = found.templates[i];
-            show_template(t);
+    while i < MAX_TEMPLATES {
+        if i < count {
+            let from = 1 + i * TEMPLATE_WORDS;
+            let end = from + TEMPLATE_WORDS;
+            show_template(&w[from..end]);
         }
         i += 1;
     }
 }
 
-fn show_template(t: Template) {
-    let id = t.id;
+fn show_template(t: &[u64])
+    requires { ⌜ templateWords ≤ length (now t) ⌝ }
+{
+    let head = table::head_of(t);
+    let id = head.id;
     decimal(id.0);
     text(b" segments ");
-    decimal(t.count as u64);
+    decimal(head.count as u64);
     text(b" static ");
-    decimal(static_size(t));
+    decimal(static_size(t, head.count));
     text(b" checksum ");
-    if t.checksum {
-        decimal(t.field as u64);
+    if head.checksum {
+        decimal(head.field as u64);
         text(b" ");
-        decimal(t.start as u64);
+        decimal(head.start as u64);
     } else {
         text(b"none");
     }
     text(b"\n");
 }
 
-// How many static bytes a template holds.
-fn static_size(t: Template) -> u64 {
-    let count = t.count;
+// How many static bytes the first `count` segments of a template hold.
+fn static_size(t: &[u64], count: usize) -> u64
+    requires { ⌜ templateWords ≤ length (now t) ⌝ }
+{
     let mut total: u64 = 0;
     let mut j: usize = 0;
-    while j < count {
-        if j < plan::MAX_SEGMENTS {
-            let s = t.segments[j];
+    while j < MAX_SEGMENTS {
+        if j < count {
+            let s = table::segment_at(t, j);
             let length = s.length as u64;
             total = std::num::wrapping_add_u64(total, length);
         }

@@ -12,8 +12,8 @@ use Rattle.answer.specs.declared.Verdict.{Verdict}
 use Rattle.answer.specs.declared.Verdict.the-variants.{Go, Stop}
 use Rattle.answer.specs.Verdict.{Writes}
 use Rattle.answer.proofs.Tables.{go-test, go-rest}
-use Rattle.plan.specs.declared.Plan.{Plan}
-use Rattle.plan.specs.Rules.{planRoom, planFault, goes, soundPlan, writeVerdict}
+use Rattle.table.specs.Templates.{Template}
+use Rattle.table.specs.Rules.{planRoom, planFault, goes, soundTemplates, planVerdict}
 use Rattle.output.specs.Places.{Put}
 use Rattle.output.proofs.Placing.{put-front}
 
@@ -26,23 +26,23 @@ module _ {m : List ℕ} {v : Verdict} where
   pub refused : {a : List ℕ} {why : Refusal} → v ≡ Stop why → Writes v m a (Refused why) a
   refused g = record { answer = rw g; output = rw g }
 
-module _ (plan : Plan) where
-  pub fault-sound : planFault plan ≡ Go → soundPlan plan ≡ true
-  unfolding soundPlan
+module _ (ts : List Template) where
+  pub fault-sound : planFault ts ≡ Go → soundTemplates ts ≡ true
+  unfolding soundTemplates
   fault-sound e = ap goes e
 
   module _ (n : ℕ) where
-    pub no-room : n < planRoom → writeVerdict plan n ≡ Stop NoRoom
-    unfolding writeVerdict
+    pub no-room : n < planRoom → planVerdict ts n ≡ Stop NoRoom
+    unfolding planVerdict
     no-room h = rw (lt-ltb n planRoom h)
 
-    -- with room, the plan's fault
-    pub fault-says : planRoom ≤ n → {v u : Verdict} → v ≡ planFault plan → v ≡ u → writeVerdict plan n ≡ u
-    unfolding writeVerdict
+    -- with room, the fault of the templates
+    pub fault-says : planRoom ≤ n → {v u : Verdict} → v ≡ planFault ts → v ≡ u → planVerdict ts n ≡ u
+    unfolding planVerdict
     fault-says h e g = rw (le-ltb n planRoom h) (sym e ∙ g)
 
-    -- what a caller learns of a plan that is written
-    pub write-go : writeVerdict plan n ≡ Go → (planRoom ≤ n) × (soundPlan plan ≡ true)
-    unfolding writeVerdict
+    -- what a caller learns of templates that are written
+    pub write-go : planVerdict ts n ≡ Go → (planRoom ≤ n) × (soundTemplates ts ≡ true)
+    unfolding planVerdict
     write-go e =
-        (ltb-false n planRoom (go-test (ltb n planRoom) NoRoom (planFault plan) e), fault-sound (go-rest (ltb n planRoom) NoRoom (planFault plan) e))
+        (ltb-false n planRoom (go-test (ltb n planRoom) NoRoom (planFault ts) e), fault-sound (go-rest (ltb n planRoom) NoRoom (planFault ts) e))

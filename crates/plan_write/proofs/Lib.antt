@@ -1,4 +1,3 @@
-pub mod Placing
 pub mod Parts
 pub mod Sizes
 pub mod Answers

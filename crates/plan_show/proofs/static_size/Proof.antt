@@ -1,23 +1,21 @@
--- `plan_show::static_size` is safe and ends: the place is within the count, and no sum wraps. Assumes nothing.
+-- It is safe and ends: the place is within the limit, and the sum wraps.
 use Prim.Native.Nat.{_≤_, _-_}
+use Rattle.table.specs.Limits.{maxSegments}
 use borrow.Author.Needs.{needs}
 use Rattle.plan_show.proofs.static_size.Statement.{statement}
 use Rattle.plan_show.proofs.static_size.Tie as tie
 
 abbrev Inv-loop : tie.InvT-loop
-Inv-loop t count total₀ j₀ total j = j ≤ count
+Inv-loop t count total₀ j₀ total j = j ≤ maxSegments
 
 abbrev μ-loop : tie.MeasureT-loop
-μ-loop t count total₀ j₀ total j = count - j
+μ-loop t count total₀ j₀ total j = maxSegments - j
 
 loop-holds : tie.Need-loop-holds Inv-loop μ-loop
 loop-holds c = search needs
 
-mul-s : tie.Need-mul-s Inv-loop μ-loop
-mul-s c = search needs
-
-element-copy-out-s : tie.Need-element-copy-out-s Inv-loop μ-loop
-element-copy-out-s c = search needs
+segment-at-requires : tie.Need-segment-at-requires Inv-loop μ-loop
+segment-at-requires c κs = search needs
 
 wrapping-add-u64-requires : tie.Need-wrapping-add-u64-requires Inv-loop μ-loop
 wrapping-add-u64-requires c κs = search needs
@@ -41,8 +39,7 @@ static-size-spec =
     Inv-loop
     μ-loop
     loop-holds
-    mul-s
-    element-copy-out-s
+    segment-at-requires
     wrapping-add-u64-requires
     add-j
     loop-less

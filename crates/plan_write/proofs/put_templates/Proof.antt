@@ -1,55 +1,73 @@
 -- The invariant: what is left to put completes the templates (`Putting`).
 use Prim.Native.Nat.{_-_, _≤_}
 use native.Mathlib.Omega.{arith}
-use Rattle.plan.specs.Shapes.{shapesOf}
-use Rattle.plan.specs.File.{shapesBytes}
-use Rattle.template.proofs.Steps.{shapesFrom}
 use Rattle.output.proofs.Placing.{Putting, putting-none, putting-more, putting-done}
-use Rattle.plan_write.proofs.Parts.{shapes-start, shapes-more, shape-room, shapes-none}
+use Rattle.table.specs.Words.{templatesOf}
+use Rattle.table.specs.File.{templatesBytes}
+use Rattle.table.proofs.Judging.{words-at}
+use Rattle.plan_write.proofs.Parts.{templatesFrom, templates-start, templates-more, template-room, templates-none, usable-at}
+use borrow.Author.Needs.{needs}
 use Rattle.plan_write.proofs.put_templates.Statement.{statement}
 use Rattle.plan_write.proofs.put_templates.Tie as tie
 
 abbrev Inv-loop : tie.InvT-loop
-Inv-loop out₀ at plan n next₀ i₀ out next i = (i ≤ n) × Putting (shapesBytes (shapesFrom plan i (n - i))) (shapesBytes (shapesOf plan)) at out₀ next out
+Inv-loop out₀ at w n next₀ i₀ out next i = (i ≤ n) × Putting (templatesBytes (templatesFrom w i (n - i))) (templatesBytes (templatesOf w)) at out₀ next out
 
 abbrev μ-loop : tie.MeasureT-loop
-μ-loop out₀ at plan n next₀ i₀ out next i = n - i
+μ-loop out₀ at w n next₀ i₀ out next i = n - i
 
-abbrev InLoop : Type 0
-InLoop = tie.In-loop Inv-loop μ-loop
+shared-slice-read-n : tie.Need-shared-slice-read-n Inv-loop μ-loop
+shared-slice-read-n c = search needs
 
 loop-holds : tie.Need-loop-holds Inv-loop μ-loop
-loop-holds c = (omega arith, putting-none (shapes-start (c .before .args .t3)))
+loop-holds c = (omega arith, putting-none (templates-start (c .before .before .before .args .w .now)))
 
-mul-t : tie.Need-mul-t Inv-loop μ-loop
-mul-t c = omega (arith, c .before .before .before .pre .0 .few)
+mul-from : tie.Need-mul-from Inv-loop μ-loop
+mul-from c = search needs
 
-element-copy-out-t : tie.Need-element-copy-out-t Inv-loop μ-loop
-element-copy-out-t c = omega (arith, c .before .before .before .pre .0 .few)
+add-from : tie.Need-add-from Inv-loop μ-loop
+add-from c = search needs
+
+add-end : tie.Need-add-end Inv-loop μ-loop
+add-end c = search needs
+
+mul-put-template : tie.Need-mul-put-template Inv-loop μ-loop
+mul-put-template c = search needs
+
+sub-put-template : tie.Need-sub-put-template Inv-loop μ-loop
+sub-put-template c = search needs
+
+part-put-template-start : tie.Need-part-put-template-start Inv-loop μ-loop
+part-put-template-start c = search needs
+
+part-put-template-end : tie.Need-part-put-template-end Inv-loop μ-loop
+part-put-template-end c = search needs
 
 put-template-requires : tie.Need-put-template-requires Inv-loop μ-loop
 put-template-requires c κs =
-    let a : InLoop = c .before .before in
-    let s = a .before .before .before in
-    (s .pre .0 .all (a .before .loop .i) (a .loop-test .taken), shape-room (s .args .t3) (a .before .loop .i) (s .args .t3 .count) (a .loop-test .taken) (a .before .loop .inv .1) (s .pre .1))
+    let s = c .before .before .before .before .before .before .before in
+    let l = c .before .before .before .loop in
+    let h = c .before .before .loop-test .taken in
+    let e = words-at (s .args .w .now) (l .i) in
+    (search needs, (usable-at (s .args .w .now) (l .i) (s .pre .1 .0) h e, template-room (s .args .w .now) (l .i) _ h e (l .inv .1) (s .pre .1 .1)))
 
 add-i : tie.Need-add-i Inv-loop μ-loop
-add-i c =
-    omega (arith, c .before .before .before .before .before .before .before .before .pre .0 .few, c .before .before .before .before .before .loop-test .taken)
+add-i c = search needs
 
 loop-less : tie.Need-loop-less Inv-loop μ-loop
-loop-less c = omega (arith, c .before .before .before .before .before .loop-test .taken)
+loop-less c = omega arith
 
 loop-again : tie.Need-loop-again Inv-loop μ-loop
 loop-again c =
-    let a : InLoop = c .before .before .before .before .before in
-    (omega (arith, a .loop-test .taken), putting-more (a .before .loop .inv .1) (shapes-more (a .before .before .before .args .t3) (a .before .loop .i) _ (a .loop-test .taken)) (c .before .before .put-template .ensures))
+    let l = c .before .before .before .before .before .before .loop in
+    let h = c .before .before .before .before .before .loop-test .taken in
+    (omega arith, putting-more (l .inv .1) (templates-more (c .before .before .before .before .before .before .before .before .before .before .args .w .now) (l .i) _ h (words-at (c .before .before .before .before .before .before .before .before .before .before .args .w .now) (l .i))) (c .before .before .put-template .ensures))
 
 same-length : tie.Need-same-length Inv-loop μ-loop
 same-length c = c .before .loop .inv .1 .put .kept
 
 returns : tie.Need-returns Inv-loop μ-loop
-returns c = putting-done (c .before .loop .inv .1) (shapes-none (c .before .before .before .args .t3) (c .before .loop .i) _ (c .loop-test .left))
+returns c = putting-done (c .before .loop .inv .1) (templates-none (c .before .before .before .before .before .args .w .now) (c .before .loop .i) _ (c .loop-test .left))
 
 pub put-templates-spec : {M : Type 1} → statement M
 put-templates-spec =
@@ -57,9 +75,15 @@ put-templates-spec =
     (tie.spec
     Inv-loop
     μ-loop
+    shared-slice-read-n
     loop-holds
-    mul-t
-    element-copy-out-t
+    mul-from
+    add-from
+    add-end
+    mul-put-template
+    sub-put-template
+    part-put-template-start
+    part-put-template-end
     put-template-requires
     add-i
     loop-less

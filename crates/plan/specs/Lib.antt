@@ -1,6 +1,0 @@
-pub mod Shapes
-pub mod Rules
-pub mod File
-pub mod Results
-pub mod Found
-pub mod Examples

@@ -1,0 +1,16 @@
+pub mod Calls
+pub mod RuleCases
+pub mod Views
+pub mod Judging
+pub mod TableFacts
+pub mod SoundCases
+pub mod Steps
+pub mod Finding
+pub mod Pasting
+pub mod Storing
+pub mod Packing
+pub mod Gathering
+pub mod Bodies
+pub mod Encoded
+pub mod Written
+pub mod Packed

@@ -1,0 +1,10 @@
+pub mod Limits
+pub mod Templates
+pub mod Rules
+pub mod Words
+pub mod Tests
+pub mod Sound
+pub mod File
+pub mod Load
+pub mod Found
+pub mod Examples
