@@ -1,1 +1,1 @@
-pub mod StateLaws
+pub mod StoreLaws

@@ -1,0 +1,118 @@
+-- The verdict on a flow: what lowering keeps, the two ends exchanged, and ICMP. Assumes nothing.
+use Prim.Native.Nat.{ℕ, _≤_}
+use mathlib.Core.Bool.{Bool, true, false, _||_}
+use mathlib.Core.Path.{_≡_, refl, sym}
+use mathlib.Core.List.{List, [], _∷_}
+use lib.Dec.{eqb}
+use Rattle.answer.proofs.Tests.{and-both}
+use Rattle.octets.specs.Parts.{part}
+use Rattle.inet.specs.declared.Address.{Address}
+use Rattle.inet.specs.Packet.{versionOf, sourceOf, destinationOf, protocolOf, isIcmp, lowered}
+use Rattle.inet.proofs.HeaderLaws.{isIcmp-6}
+use Rattle.inet.proofs.LoweredLaws.{lowered-sourceOf, lowered-destinationOf, lowered-protocolOf, lowered-isIcmp}
+use Rattle.lists.specs.declared.RouteRange.{RouteRange}
+use Rattle.octets.specs.Scan.{anyOf}
+use Rattle.lists.specs.Words.{maxAddresses, maxRanges, addressWords, routeWords, countOf, soundAddresses, soundRoutes}
+use Rattle.lists.proofs.ListScans.{entries-within, ranges-within}
+use Rattle.policy.specs.declared.Flow.{Flow}
+use Rattle.policy.specs.Granted.{flowOf, covers, holds, admits, Side, sideIn, soundSide, granted, passes, reversed}
+
+-- ---- flows
+
+pub flow-parts : (p : List ℕ) {s d : Address} {n : ℕ} {i : Bool} → s ≡ sourceOf p → d ≡ destinationOf p → n ≡ protocolOf p → i ≡ isIcmp p
+    → _≡_ {A = Flow} (record { source = s; destination = d; protocol = n; icmp = i }) (flowOf p)
+unfolding flowOf
+flow-parts p e f g h = rw (e, f, g, h)
+
+-- lowering a packet keeps all that its verdict depends on
+pub flow-lowered : (p : List ℕ) → flowOf (lowered p) ≡ flowOf p
+unfolding flowOf
+flow-lowered p = rw (lowered-sourceOf p, lowered-destinationOf p, lowered-protocolOf p, lowered-isIcmp p)
+
+-- protocol 1 is not ICMP in IPv6
+pub icmp-6-not-1 : (p : List ℕ) → versionOf p ≡ 6 → protocolOf p ≡ 1 → isIcmp p ≡ false
+icmp-6-not-1 p v e = sym (isIcmp-6 p v (sym e))
+
+-- ---- the verdict
+
+or-comm : (a b : Bool) → (a || b) ≡ (b || a)
+or-comm true true = refl
+or-comm true false = refl
+or-comm false true = refl
+or-comm false false = refl
+
+or-true : (a : Bool) → (a || true) ≡ true
+or-true true = refl
+or-true false = refl
+
+module _ (s : Side) (near far : Address) (f : Flow) where
+  pub granted-uncovered : anyOf (covers near) (s .addresses) ≡ false → false ≡ granted s near far f
+  granted-uncovered e = rw e
+
+  pub granted-covered : {t : Bool} → anyOf (covers near) (s .addresses) ≡ true
+      → t ≡ anyOf (admits far (f .protocol) (f .icmp)) (s .routes) → t ≡ granted s near far f
+  granted-covered e q = rw e q
+
+module _ (s r : Side) (f : Flow) where
+  pub passes-granted : granted s (f .source) (f .destination) f ≡ true → passes s r f ≡ true
+  unfolding passes
+  passes-granted e = rw e
+
+  pub passes-reply : {t : Bool} → granted s (f .source) (f .destination) f ≡ false → t ≡ granted r (f .destination) (f .source) f
+      → t ≡ passes s r f
+  unfolding passes
+  passes-reply e q = rw e q
+
+  -- the two sides exchanged, and the two ends
+  pub passes-reversed : passes r s (reversed f) ≡ passes s r f
+  unfolding passes
+  passes-reversed = or-comm (granted r (f .destination) (f .source) f) (granted s (f .source) (f .destination) f)
+
+-- ---- ICMP
+
+-- whatever protocol a range names, it allows ICMP
+pub admits-held : (a : Address) (p : ℕ) (rs : List RouteRange) → anyOf (holds a) rs ≡ true → anyOf (admits a p true) rs ≡ true
+unfolding admits
+admits-held a p [] h = h
+admits-held a p (r ∷ rs) h = go (admits-held a p rs) (holds a r) refl h
+  where
+    go : (anyOf (holds a) rs ≡ true → anyOf (admits a p true) rs ≡ true) → (t : Bool) → holds a r ≡ t → (t || anyOf (holds a) rs) ≡ true
+        → (admits a p true r || anyOf (admits a p true) rs) ≡ true
+    go f true e q = rw (e, or-true (eqb (r .protocol) p), or-true (eqb (r .protocol) 0))
+    go f false e q = rw e (f q)
+
+module _ (s r : Side) where
+  pub passes-icmp : (f : Flow) → f .icmp ≡ true → anyOf (covers (f .source)) (s .addresses) ≡ true
+      → anyOf (holds (f .destination)) (s .routes) ≡ true → passes s r f ≡ true
+  passes-icmp f i e h = passes-granted s r f (rw (i, e) (admits-held (f .destination) (f .protocol) (s .routes) h))
+
+  -- the verdict on a packet is that on the packet as it goes on
+  pub passes-lowered : (p : List ℕ) → passes s r (flowOf (lowered p)) ≡ passes s r (flowOf p)
+  passes-lowered p = rw (flow-lowered p)
+
+-- ---- the rules of a side
+
+module _ (s : Side) where
+  pub side-facts : soundSide s ≡ true → (soundAddresses (s .addresses) ≡ true) × (soundRoutes (s .routes) ≡ true)
+  unfolding soundSide
+  side-facts e = and-both (soundAddresses (s .addresses)) (soundRoutes (s .routes)) e
+
+  pub facts-side : soundAddresses (s .addresses) ≡ true → soundRoutes (s .routes) ≡ true → soundSide s ≡ true
+  unfolding soundSide
+  facts-side e f = rw e f
+
+  pub side-broken : soundAddresses (s .addresses) ≡ false → false ≡ soundSide s
+  unfolding soundSide
+  side-broken e = rw e
+
+  pub side-routes : {t : Bool} → soundAddresses (s .addresses) ≡ true → t ≡ soundRoutes (s .routes) → t ≡ soundSide s
+  unfolding soundSide
+  side-routes e q = rw e q
+
+-- the counts of a sound side are within their limits
+module _ (w : List ℕ) (s : soundSide (sideIn w) ≡ true) where
+  pub addresses-within : countOf (part w 0 addressWords) ≤ maxAddresses
+  addresses-within = entries-within (part w 0 addressWords) (side-facts (sideIn w) s .0)
+
+  pub routes-within : countOf (part w addressWords routeWords) ≤ maxRanges
+  routes-within = ranges-within (part w addressWords routeWords) (side-facts (sideIn w) s .1)

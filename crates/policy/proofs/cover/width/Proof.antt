@@ -1,0 +1,13 @@
+-- The width by the version. Assumes nothing.
+use borrow.Author.Tests.{eq-eqb, ne-eqb}
+use Rattle.policy.proofs.cover.width.Statement.{statement}
+use Rattle.policy.proofs.cover.width.Tie as tie
+
+returns : tie.Need-returns
+returns c = simp (eq-eqb _ _ (c .if1 .taken))
+
+returns-2 : tie.Need-returns-2
+returns-2 c = simp (ne-eqb _ _ (c .if1 .left))
+
+pub width-spec : {M : Type 1} → statement M
+width-spec = tie.close (tie.spec returns returns-2)

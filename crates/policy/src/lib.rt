@@ -1,0 +1,79 @@
+// Whether lists of addresses and routes let a packet pass: cover, allowance, and the rule for replies.
+// A side, the addresses and routes of one direction, is lent as words, so that no packet pays for a copy. `side_sound` judges its rules;
+// the other functions require them.
+mod cover; // cover.rt: address entries and the addresses they cover
+mod admit; // admit.rt: route ranges and the addresses and protocols they let through
+
+use inet::Address;
+use lists::ADDRESS_WORDS;
+use lists::ROUTE_WORDS;
+ghost use mathlib.Core.Path.{_≡_};
+ghost use mathlib.Core.Bool.{true};
+ghost use Prim.Native.Nat.{_≤_};
+ghost use lib.ListN.{length};
+ghost use Rattle.inet.specs.Packet.{Form};
+ghost use Rattle.policy.specs.Granted.{flowOf, sideWords, sideIn, soundSide, granted, passes};
+
+// The words of a side: its addresses, then its routes.
+pub const SIDE_WORDS: usize = ADDRESS_WORDS + ROUTE_WORDS;
+
+// All of a packet that its verdict depends on.
+#[repr(C)]
+pub struct Flow {
+    pub source: Address,
+    pub destination: Address,
+    pub protocol: u8,
+    pub icmp: bool,
+}
+
+// What a packet of good form says.
+pub fn flow_of(packet: &[u8]) -> Flow
+    requires { ⌜ Form (now packet) ⌝ }
+    ensures { λ r. ⌜ r ≡ flowOf (now (packet .entry)) ⌝ }
+{
+    let source = inet::packet::source(packet);
+    let destination = inet::packet::destination(packet);
+    let protocol = inet::packet::protocol(packet);
+    let icmp = inet::packet::is_icmp(packet);
+    Flow {
+        source,
+        destination,
+        protocol,
+        icmp,
+    }
+}
+
+// Whether a side's lists keep their rules.
+pub fn side_sound(side: &[u64]) -> bool
+    requires { ⌜ sideWords ≤ length (now side) ⌝ }
+    ensures { λ r. ⌜ r ≡ soundSide (sideIn (now (side .entry))) ⌝ }
+{
+    if !lists::addresses_sound(&side[0..ADDRESS_WORDS]) {
+        return false;
+    }
+    lists::routes_sound(&side[ADDRESS_WORDS..SIDE_WORDS])
+}
+
+// Whether a side grants a flow or, as a reply, the other one does.
+pub fn passes<'a>(side: &'a [u64], reply: &'a [u64], f: Flow) -> bool
+    requires { ⌜ (sideWords ≤ length (now side)) × (sideWords ≤ length (now reply)) ⌝ }
+    requires { ⌜ (soundSide (sideIn (now side)) ≡ true) × (soundSide (sideIn (now reply)) ≡ true) ⌝ }
+    ensures { λ r. ⌜ r ≡ passes (sideIn (now (side .entry))) (sideIn (now (reply .entry))) f ⌝ }
+{
+    if granted(side, f.source, f.destination, f) {
+        return true;
+    }
+    granted(reply, f.destination, f.source, f)
+}
+
+// Whether the near end's address is covered, and the far end's lies in a range that allows the protocol.
+fn granted(side: &[u64], near: Address, far: Address, f: Flow) -> bool
+    requires { ⌜ sideWords ≤ length (now side) ⌝ }
+    requires { ⌜ soundSide (sideIn (now side)) ≡ true ⌝ }
+    ensures { λ r. ⌜ r ≡ granted (sideIn (now (side .entry))) near far f ⌝ }
+{
+    if !cover::any_covers(&side[0..ADDRESS_WORDS], near) {
+        return false;
+    }
+    admit::any_admits(&side[ADDRESS_WORDS..SIDE_WORDS], far, f.protocol, f.icmp)
+}
