@@ -7,28 +7,26 @@ use native.Mathlib.Omega.{arith}
 use lib.ListN.{length, take}
 use Rattle.inet.specs.Transport.{seed, setField, finish}
 use Rattle.inet.proofs.FieldLaws.{put-take, setField-length}
-use Rattle.plan.specs.declared.Template.{Template}
-use Rattle.plan.specs.Shapes.{shapeOf}
-use Rattle.lent_plan.specs.declared.Head.{Head}
-use Rattle.lent_plan.specs.Lent.{headOf}
+use Rattle.table.specs.Words.{templateOf, headOf}
+use Rattle.table.specs.declared.Head.{Head}
 use Rattle.template.specs.Pieces.{staticSize, weave}
-use Rattle.template.specs.Datagrams.{seeded, rebuilt}
+use Rattle.template.specs.Datagrams.{maxPacket, seeded, rebuilt}
 use Rattle.template.specs.Usable.{piecesOf, Seedable, Rebuildable, Weavable, Completable, Begins}
 use Rattle.template.proofs.PieceLaws.{length-weave}
 use Rattle.template.proofs.Steps.{sum-facts}
 use Rattle.template.proofs.Sizes.{reaches-end, reaches-field}
 
-module _ (t : Template) (v : List ℕ) where
-  rebuilt-plain : t .checksum ≡ false → rebuilt (shapeOf t) v ≡ weave 0 (piecesOf t) v
-  unfolding rebuilt shapeOf
+module _ (t v : List ℕ) where
+  rebuilt-plain : headOf t .checksum ≡ false → rebuilt (templateOf t) v ≡ weave 0 (piecesOf t) v
+  unfolding rebuilt templateOf
   rebuilt-plain e = rw e
 
-  rebuilt-sum : t .checksum ≡ true → rebuilt (shapeOf t) v ≡ setField (t .field) (finish (t .start) (weave 0 (piecesOf t) v)) (weave 0 (piecesOf t) v)
-  unfolding rebuilt shapeOf
+  rebuilt-sum : headOf t .checksum ≡ true → rebuilt (templateOf t) v ≡ setField (headOf t .field) (finish (headOf t .start) (weave 0 (piecesOf t) v)) (weave 0 (piecesOf t) v)
+  unfolding rebuilt templateOf
   rebuilt-sum e = rw e
 
-module _ (t : Template) (v : List ℕ) (ready : Rebuildable t v) where
-  pub weavable : (out : List ℕ) → 1500 ≤ length out → Weavable t v out
+module _ (t v : List ℕ) (ready : Rebuildable t v) where
+  pub weavable : (out : List ℕ) → maxPacket ≤ length out → Weavable t v out
   weavable out h = record { usable = ready .usable; reach = reaches-end t v (ready .reach); room = omega (arith, ready .small) }
 
   module _ {out : List ℕ} {r : ℕ} (b : Begins (weave 0 (piecesOf t) v) out r) where
@@ -36,9 +34,9 @@ module _ (t : Template) (v : List ℕ) (ready : Rebuildable t v) where
     size = b .size ∙ length-weave (piecesOf t) 0 v
 
     module _ {head : Head} (known : head ≡ headOf t) where
-      pub completable : 1500 ≤ length out → head .checksum ≡ true → Completable (head .field) (head .start) r out
+      pub completable : maxPacket ≤ length out → head .checksum ≡ true → Completable (head .field) (head .start) r out
       completable h e =
-          let f : t .checksum ≡ true = rw known at e in
+          let f : headOf t .checksum ≡ true = rw known at e in
           rw known (record {
             order = sum-facts t (ready .usable .sound) f .order;
             inside = omega (arith, size, reaches-field t v (ready .reach) f);
@@ -47,35 +45,35 @@ module _ (t : Template) (v : List ℕ) (ready : Rebuildable t v) where
           })
 
       -- without a checksum
-      pub begins-plain : head .checksum ≡ false → Begins (rebuilt (shapeOf t) v) out r
+      pub begins-plain : head .checksum ≡ false → Begins (rebuilt (templateOf t) v) out r
       begins-plain e = rw (rebuilt-plain t v (rw known at e)) b
 
       -- with one
-      pub begins-sum : {out′ : List ℕ} → head .checksum ≡ true → out′ ≡ setField (head .field) (finish (head .start) (take r out)) out → Begins (rebuilt (shapeOf t) v) out′ r
+      pub begins-sum : {out′ : List ℕ} → head .checksum ≡ true → out′ ≡ setField (head .field) (finish (head .start) (take r out)) out → Begins (rebuilt (templateOf t) v) out′ r
       begins-sum {out′} e q =
-          let f : t .checksum ≡ true = rw known at e in
+          let f : headOf t .checksum ≡ true = rw known at e in
           let w = weave 0 (piecesOf t) v in
-          let l : t .field + 1 < r = omega (arith, size, reaches-field t v (ready .reach) f) in
-          let s : rebuilt (shapeOf t) v ≡ setField (t .field) (finish (t .start) w) w = rebuilt-sum t v f in
+          let l : headOf t .field + 1 < r = omega (arith, size, reaches-field t v (ready .reach) f) in
+          let s : rebuilt (templateOf t) v ≡ setField (headOf t .field) (finish (headOf t .start) w) w = rebuilt-sum t v f in
           record {
-            size = b .size ∙ sym (ap length s ∙ setField-length (t .field) (finish (t .start) w) w);
+            size = b .size ∙ sym (ap length s ∙ setField-length (headOf t .field) (finish (headOf t .start) w) w);
             front =
-                ap (take r) (rw known at q) ∙ put-take out (t .field) (finish (t .start) (take r out)) r l
-                ∙ ap (λ (x : List ℕ). setField (t .field) (finish (t .start) x) x) (b .front) ∙ sym s;
+                ap (take r) (rw known at q) ∙ put-take out (headOf t .field) (finish (headOf t .start) (take r out)) r l
+                ∙ ap (λ (x : List ℕ). setField (headOf t .field) (finish (headOf t .start) x) x) (b .front) ∙ sym s;
           }
 
 -- the seed in the field of a template with a checksum
-module _ (t : Template) (p : List ℕ) {head : Head} (known : head ≡ headOf t) where
-  pub seeded-plain : head .checksum ≡ false → p ≡ seeded (shapeOf t .sum) p
-  unfolding shapeOf
+module _ (t p : List ℕ) {head : Head} (known : head ≡ headOf t) where
+  pub seeded-plain : head .checksum ≡ false → p ≡ seeded (templateOf t .sum) p
+  unfolding templateOf
   seeded-plain e = rw (rw known at e)
 
-  pub seeded-sum : {v : ℕ} {q : List ℕ} → head .checksum ≡ true → v ≡ seed (head .start) p → q ≡ setField (head .field) v p → q ≡ seeded (shapeOf t .sum) p
-  unfolding shapeOf
-  seeded-sum e f g = rw (rw known at e) (rw known at g ∙ ap (λ (x : ℕ). setField (t .field) x p) (rw known at f))
+  pub seeded-sum : {v : ℕ} {q : List ℕ} → head .checksum ≡ true → v ≡ seed (head .start) p → q ≡ setField (head .field) v p → q ≡ seeded (templateOf t .sum) p
+  unfolding templateOf
+  seeded-sum e f g = rw (rw known at e) (rw known at g ∙ ap (λ (x : ℕ). setField (headOf t .field) x p) (rw known at f))
 
   pub seedable-inside : Seedable t p → head .checksum ≡ true → head .field + 2 ≤ length p
-  unfolding shapeOf
+  unfolding templateOf
   seedable-inside s e = rw known (rw (rw known at e) at (s .inside))
 
   pub seedable-order : Seedable t p → head .checksum ≡ true → head .start ≤ head .field

@@ -14,7 +14,7 @@ use Rattle.inet.specs.Packet.{protocolByte, put16}
 use Rattle.inet.specs.Transport.{seed, setField, sent, finish, completion, fieldIs}
 use Rattle.inet.proofs.FieldLaws.{words-put, drop-put-from}
 use Rattle.inet.proofs.TransportLaws.{sent-udp, sent-other, sent-nonzero, setField-protocolByte}
-use Rattle.plan.specs.Shapes.{sumAt}
+use Rattle.table.specs.Templates.{sumAt}
 use Rattle.template.specs.Fits.{fitsSum}
 use Rattle.template.specs.Usable.{SumPlace}
 

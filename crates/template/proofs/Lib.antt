@@ -2,7 +2,6 @@ pub mod PieceLaws
 pub mod RebuildLaws
 pub mod Steps
 pub mod CompletionLaws
-pub mod Writing
 pub mod StaticBytes
 pub mod Sizes
 pub mod Shortening
@@ -12,4 +11,3 @@ pub mod OpenLaws
 pub mod ChosenLaws
 pub mod ChoiceLaws
 pub mod DatagramLaws
-pub mod PlanFacts

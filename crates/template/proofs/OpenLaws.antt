@@ -10,13 +10,13 @@ use borrow.Author.Tests.{le-leb, lt-leb, ne-eqb}
 use Rattle.answer.specs.declared.Refusal.the-variants.{UnknownContext, CutDatagram, PacketTooLong}
 use Rattle.varint.specs.declared.NumberRead.the-variants.{Whole, Cut}
 use Rattle.varint.specs.Numbers.{readNumber}
-use Rattle.plan.specs.Shapes.{Shape}
+use Rattle.table.specs.Templates.{Template}
 use Rattle.template.specs.Pieces.{staticSize}
-use Rattle.template.specs.Fits.{full, short, withId}
+use Rattle.template.specs.Fits.{missing, listed, withId}
 use Rattle.template.specs.Datagrams.{maxPacket, rebuilt, reaches, packet, refused, opened}
 use Rattle.template.proofs.RebuildLaws.{length-rebuilt}
 
-module _ (ts : List Shape) (d : List ℕ) where
+module _ (ts : List Template) (d : List ℕ) where
   -- the Context ID is cut
   pub opened-cut : readNumber d ≡ Cut → opened ts d ≡ refused CutDatagram
   unfolding opened
@@ -32,12 +32,12 @@ module _ (ts : List Shape) (d : List ℕ) where
   opened-full-long n e h = rw (e, lt-leb (length (drop n d)) maxPacket h)
 
   module _ (id n : ℕ) (e : readNumber d ≡ Whole id n) (some : id ≢ 0) where
-    pub opened-unknown : withId id ts ≡ full → opened ts d ≡ refused UnknownContext
+    pub opened-unknown : withId id ts ≡ missing → opened ts d ≡ refused UnknownContext
     unfolding opened
     opened-unknown f = rw (e, ne-eqb id 0 some, f)
 
     -- the template with the Context ID
-    module _ (t : Shape) (f : withId id ts ≡ short t) where
+    module _ (t : Template) (f : withId id ts ≡ listed t) where
       pub opened-short-cut : reaches t (drop n d) ≡ false → opened ts d ≡ refused CutDatagram
       unfolding opened
       opened-short-cut g = rw (e, ne-eqb id 0 some, f, g)

@@ -13,9 +13,9 @@ use Rattle.answer.proofs.Tests.{and-both}
 use Rattle.inet.specs.Packet.{put16}
 use Rattle.inet.specs.Transport.{setField}
 use Rattle.inet.proofs.FieldLaws.{put-length, put-drop, drop-put-from}
-use Rattle.plan.specs.Shapes.{Piece, pieceEnd}
+use Rattle.table.specs.Sound.{Ascends, ClearOf}
+use Rattle.table.specs.Templates.{Piece, pieceEnd}
 use Rattle.template.specs.Pieces.{begins, fitsPieces, strip, weave, staticSize, lastEnd}
-use Rattle.template.specs.Sound.{Ascends, ClearOf}
 
 -- what begins with b is b and the rest
 begins-split : (b q : List ℕ) → begins b q ≡ true → b ++ drop (length b) q ≡ q

@@ -10,10 +10,10 @@ use borrow.Author.Tests.{leb-true, le-leb}
 use Rattle.answer.proofs.Tests.{and-both}
 use Rattle.inet.specs.Transport.{seed, finish, completion}
 use Rattle.inet.proofs.FieldLaws.{setField-length, fieldIs-back}
-use Rattle.plan.specs.Shapes.{Piece, Sum, noSum, sumAt, Shape}
+use Rattle.table.specs.Sound.{SoundSum, SoundTemplate}
+use Rattle.table.specs.Templates.{Piece, Sum, noSum, sumAt, Template}
 use Rattle.template.specs.Pieces.{fitsPieces, strip, weave, staticSize}
 use Rattle.template.specs.Fits.{fitsSum, fits}
-use Rattle.template.specs.Sound.{SoundSum, SoundShape}
 use Rattle.template.specs.Datagrams.{seeded, completed, rebuilt, sumEnd, reaches}
 use Rattle.template.proofs.PieceLaws.{strip-weave, length-strip, length-weave, fits-end, fits-set}
 
@@ -37,12 +37,12 @@ pub fitsSum-end : (k : Sum) (p : List ℕ) → fitsSum k p ≡ true → sumEnd k
 fitsSum-end noSum p f = omega arith
 fitsSum-end (sumAt field start) p f = leb-true (field + 2) (length p) (and-both (leb (field + 2) (length p)) _ f .0)
 
-pub fits-both : (t : Shape) (p : List ℕ) → fits t p ≡ true → (fitsPieces (t .pieces) p ≡ true) × (fitsSum (t .sum) p ≡ true)
+pub fits-both : (t : Template) (p : List ℕ) → fits t p ≡ true → (fitsPieces (t .pieces) p ≡ true) × (fitsSum (t .sum) p ≡ true)
 unfolding fits
 fits-both t p f = and-both (fitsPieces (t .pieces) p) (fitsSum (t .sum) p) f
 
 -- what goes behind the Context ID
-abbrev pub body : Shape → List ℕ → List ℕ
+abbrev pub body : Template → List ℕ → List ℕ
 body t p = strip 0 (t .pieces) (seeded (t .sum) p)
 
 pub completed-length : (k : Sum) (q : List ℕ) → length (completed k q) ≡ length q
@@ -50,11 +50,11 @@ completed-length noSum q = refl
 completed-length (sumAt field start) q = setField-length field (finish start q) q
 
 -- the length of the packet that some bytes stand for
-pub length-rebuilt : (t : Shape) (v : List ℕ) → length (rebuilt t v) ≡ staticSize (t .pieces) + length v
+pub length-rebuilt : (t : Template) (v : List ℕ) → length (rebuilt t v) ≡ staticSize (t .pieces) + length v
 unfolding rebuilt
 length-rebuilt t v = completed-length (t .sum) (weave 0 (t .pieces) v) ∙ length-weave (t .pieces) 0 v
 
-module _ (t : Shape) (p : List ℕ) (sound : SoundShape t) (f : fits t p ≡ true) where
+module _ (t : Template) (p : List ℕ) (sound : SoundTemplate t) (f : fits t p ≡ true) where
   fits-seeded : fitsPieces (t .pieces) (seeded (t .sum) p) ≡ true
   fits-seeded = seeded-fits (t .sum) (t .pieces) p (sound .summed) ∙ fits-both t p f .0
 

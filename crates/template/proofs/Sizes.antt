@@ -8,16 +8,15 @@ use lib.ListN.{length}
 use lib.Dec.{leb}
 use borrow.Author.Tests.{le-leb, lt-leb, leb-true}
 use Rattle.answer.proofs.Tests.{and-both}
-use Rattle.plan.specs.declared.Segment.{Segment}
-use Rattle.plan.specs.declared.Template.{Template}
-use Rattle.plan.specs.Rules.{staticLimit}
-use Rattle.plan.specs.Shapes.{Piece, pieceEnd, window, segmentAt, shapeOf}
-use Rattle.lent_plan.specs.declared.Head.{Head}
-use Rattle.lent_plan.specs.Lent.{headOf}
+use Rattle.table.specs.Limits.{staticLimit}
+use Rattle.table.specs.Sound.{Ascends, UsableTemplate}
+use Rattle.table.specs.Templates.{Piece, pieceEnd}
+use Rattle.table.specs.Words.{window, segmentAt, templateOf, headOf}
+use Rattle.table.specs.declared.Head.{Head}
+use Rattle.table.specs.declared.Segment.{Segment}
 use Rattle.template.specs.Pieces.{staticSize, lastEnd}
-use Rattle.template.specs.Sound.{Ascends}
 use Rattle.template.specs.Datagrams.{sumEnd, reaches}
-use Rattle.template.specs.Usable.{UsableTemplate, piecesOf}
+use Rattle.template.specs.Usable.{piecesOf}
 use Rattle.template.proofs.Steps.{segmentEnd, piecesFrom, window-length, pieces-all, pieces-step, pieces-done, sum-facts}
 
 -- ascending pieces lie one behind the other, within the limit
@@ -31,25 +30,25 @@ unfolding Ascends
 end-limit [] pos a = a
 end-limit (s ∷ ss) pos a = end-limit ss (pieceEnd s) (a .1)
 
-pub static-limit : (t : Template) → UsableTemplate t → staticSize (piecesOf t) ≤ staticLimit
+pub static-limit : (t : List ℕ) → UsableTemplate t → staticSize (piecesOf t) ≤ staticLimit
 static-limit t u = omega (arith, static-end (piecesOf t) 0 (u .sound .ascends), end-limit (piecesOf t) 0 (u .sound .ascends))
 
 -- a segment that was read ends within the limit
-pub segment-within : (t : Template) → UsableTemplate t → (j : ℕ) {s : Segment} → j < t .count → s ≡ segmentAt t j → s .offset + s .length ≤ staticLimit
+pub segment-within : (t : List ℕ) → UsableTemplate t → (j : ℕ) {s : Segment} → j < headOf t .count → s ≡ segmentAt t j → s .offset + s .length ≤ staticLimit
 segment-within t u j h e = rw e (u .within j h)
 
 -- and so does a field
-pub field-within : (t : Template) → UsableTemplate t → {head : Head} → head ≡ headOf t → head .checksum ≡ true → head .field + 2 ≤ staticLimit
+pub field-within : (t : List ℕ) → UsableTemplate t → {head : Head} → head ≡ headOf t → head .checksum ≡ true → head .field + 2 ≤ staticLimit
 field-within t u q e = rw q (sum-facts t (u .sound) (rw q at e) .high)
 
-module _ (t : Template) (j n : ℕ) (h : j < n) where
+module _ (t : List ℕ) (j n : ℕ) (h : j < n) where
   pub static-step : staticSize (piecesFrom t j (n - j)) ≡ segmentAt t j .length + staticSize (piecesFrom t (j + 1) (n - (j + 1)))
-  static-step = rw (pieces-step t j n h, window-length (t .bytes) (segmentAt t j .offset) (segmentAt t j .length))
+  static-step = rw (pieces-step t j n h, window-length t (segmentAt t j .offset) (segmentAt t j .length))
 
   pub end-step : (pos : ℕ) → lastEnd pos (piecesFrom t j (n - j)) ≡ lastEnd (segmentEnd t j) (piecesFrom t (j + 1) (n - (j + 1)))
   end-step pos =
       ap (lastEnd pos) (pieces-step t j n h)
-      ∙ ap (λ (k : ℕ). lastEnd (segmentAt t j .offset + k) (piecesFrom t (j + 1) (n - (j + 1)))) (window-length (t .bytes) (segmentAt t j .offset) (segmentAt t j .length))
+      ∙ ap (λ (k : ℕ). lastEnd (segmentAt t j .offset + k) (piecesFrom t (j + 1) (n - (j + 1)))) (window-length t (segmentAt t j .offset) (segmentAt t j .length))
 
   pub ascends-head : (pos : ℕ) → Ascends pos (piecesFrom t j (n - j)) → pos ≤ segmentAt t j .offset
   unfolding Ascends
@@ -57,50 +56,50 @@ module _ (t : Template) (j n : ℕ) (h : j < n) where
 
   pub ascends-tail : (pos : ℕ) → Ascends pos (piecesFrom t j (n - j)) → Ascends (segmentEnd t j) (piecesFrom t (j + 1) (n - (j + 1)))
   unfolding Ascends
-  ascends-tail pos a = rw (window-length (t .bytes) (segmentAt t j .offset) (segmentAt t j .length)) at ((rw (pieces-step t j n h) at a) .1)
+  ascends-tail pos a = rw (window-length t (segmentAt t j .offset) (segmentAt t j .length)) at ((rw (pieces-step t j n h) at a) .1)
 
-pub static-done : (t : Template) (j n : ℕ) → n ≤ j → staticSize (piecesFrom t j (n - j)) ≡ 0
+pub static-done : (t : List ℕ) (j n : ℕ) → n ≤ j → staticSize (piecesFrom t j (n - j)) ≡ 0
 static-done t j n h = rw (pieces-done t j n h)
 
 -- the last segment's end
-last-from : (t : Template) (m j pos : ℕ) → lastEnd pos (piecesFrom t j (suc m)) ≡ segmentEnd t (j + m)
+last-from : (t : List ℕ) (m j pos : ℕ) → lastEnd pos (piecesFrom t j (suc m)) ≡ segmentEnd t (j + m)
 unfolding piecesFrom
 last-from t zero j pos =
     let e : j + 0 ≡ j = omega arith in
-    rw (e, window-length (t .bytes) (segmentAt t j .offset) (segmentAt t j .length))
+    rw (e, window-length t (segmentAt t j .offset) (segmentAt t j .length))
 last-from t (suc m) j pos =
     let e : j + suc m ≡ suc j + m = omega arith in
-    rw e (last-from t m (suc j) (pieceEnd (record { offset = segmentAt t j .offset; bytes = window (t .bytes) (segmentAt t j .offset) (segmentAt t j .length) })))
+    rw e (last-from t m (suc j) (pieceEnd (record { offset = segmentAt t j .offset; bytes = window t (segmentAt t j .offset) (segmentAt t j .length) })))
 
-pub last-end : (t : Template) {n : ℕ} {s : Segment} → n ≡ t .count → 0 < n → s ≡ segmentAt t (n - 1) → s .offset + s .length ≡ lastEnd 0 (piecesOf t)
+pub last-end : (t : List ℕ) {n : ℕ} {s : Segment} → n ≡ headOf t .count → 0 < n → s ≡ segmentAt t (n - 1) → s .offset + s .length ≡ lastEnd 0 (piecesOf t)
 last-end t {n} q h e =
-    let k : t .count - 0 ≡ suc (n - 1) = omega arith in
+    let k : headOf t .count - 0 ≡ suc (n - 1) = omega arith in
     rw e (sym (ap (lastEnd 0) (pieces-all t ∙ ap (piecesFrom t 0) k) ∙ last-from t (n - 1) 0 0 ∙ ap (segmentEnd t) (omega arith)))
 
-pub last-none : (t : Template) {n : ℕ} → n ≡ t .count → n ≡ 0 → 0 ≡ lastEnd 0 (piecesOf t)
-last-none t q h = sym (ap (lastEnd 0) (pieces-all t ∙ pieces-done t 0 (t .count) (omega arith)))
+pub last-none : (t : List ℕ) {n : ℕ} → n ≡ headOf t .count → n ≡ 0 → 0 ≡ lastEnd 0 (piecesOf t)
+last-none t q h = sym (ap (lastEnd 0) (pieces-all t ∙ pieces-done t 0 (headOf t .count) (omega arith)))
 
 -- whether bytes reach
-module _ (t : Template) (v : List ℕ) where
-  pub reaches-short : staticSize (piecesOf t) + length v < lastEnd 0 (piecesOf t) → reaches (shapeOf t) v ≡ false
+module _ (t v : List ℕ) where
+  pub reaches-short : staticSize (piecesOf t) + length v < lastEnd 0 (piecesOf t) → reaches (templateOf t) v ≡ false
   unfolding reaches
   reaches-short h = rw (lt-leb _ _ h)
 
-  pub reaches-sum : {head : Head} → head ≡ headOf t → lastEnd 0 (piecesOf t) ≤ staticSize (piecesOf t) + length v → head .checksum ≡ true → reaches (shapeOf t) v ≡ leb (head .field + 2) (staticSize (piecesOf t) + length v)
-  unfolding reaches shapeOf
+  pub reaches-sum : {head : Head} → head ≡ headOf t → lastEnd 0 (piecesOf t) ≤ staticSize (piecesOf t) + length v → head .checksum ≡ true → reaches (templateOf t) v ≡ leb (head .field + 2) (staticSize (piecesOf t) + length v)
+  unfolding reaches templateOf
   reaches-sum q h e = rw q (rw (le-leb _ _ h, rw q at e))
 
-  pub reaches-plain : {head : Head} → head ≡ headOf t → lastEnd 0 (piecesOf t) ≤ staticSize (piecesOf t) + length v → head .checksum ≡ false → reaches (shapeOf t) v ≡ true
-  unfolding reaches shapeOf
+  pub reaches-plain : {head : Head} → head ≡ headOf t → lastEnd 0 (piecesOf t) ≤ staticSize (piecesOf t) + length v → head .checksum ≡ false → reaches (templateOf t) v ≡ true
+  unfolding reaches templateOf
   reaches-plain q h e = rw (le-leb _ _ h, rw q at e) (le-leb 0 (staticSize (piecesOf t) + length v) (omega arith))
 
-  pub reaches-end : reaches (shapeOf t) v ≡ true → lastEnd 0 (piecesOf t) ≤ staticSize (piecesOf t) + length v
+  pub reaches-end : reaches (templateOf t) v ≡ true → lastEnd 0 (piecesOf t) ≤ staticSize (piecesOf t) + length v
   unfolding reaches
   reaches-end e = leb-true _ _ (and-both _ _ e .0)
 
-  pub reaches-field : reaches (shapeOf t) v ≡ true → t .checksum ≡ true → t .field + 2 ≤ staticSize (piecesOf t) + length v
-  unfolding reaches shapeOf
+  pub reaches-field : reaches (templateOf t) v ≡ true → headOf t .checksum ≡ true → headOf t .field + 2 ≤ staticSize (piecesOf t) + length v
+  unfolding reaches templateOf
   reaches-field e f =
       let n = staticSize (piecesOf t) + length v in
-      let g = and-both (leb (lastEnd 0 (piecesOf t)) n) (leb (sumEnd (shapeOf t .sum)) n) e in
-      leb-true (t .field + 2) n (rw f at (g .1))
+      let g = and-both (leb (lastEnd 0 (piecesOf t)) n) (leb (sumEnd (templateOf t .sum)) n) e in
+      leb-true (headOf t .field + 2) n (rw f at (g .1))

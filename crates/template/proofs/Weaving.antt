@@ -6,31 +6,30 @@ use mathlib.Core.List.{List, _++_, append-assoc}
 use native.Mathlib.Omega.{arith}
 use lib.ListN.{length, take, drop, length-drop}
 use lib.Seq.{take-all, length-take-le, drop-drop}
-use Rattle.plan.specs.declared.Segment.{Segment}
-use Rattle.plan.specs.declared.Template.{Template}
-use Rattle.plan.specs.Shapes.{window, segmentAt}
+use Rattle.output.specs.Places.{Put}
+use Rattle.table.specs.Sound.{Ascends}
+use Rattle.table.specs.Words.{window, segmentAt, headOf}
+use Rattle.table.specs.declared.Segment.{Segment}
 use Rattle.template.specs.Pieces.{weave, staticSize, lastEnd}
-use Rattle.template.specs.Sound.{Ascends}
-use Rattle.template.specs.Usable.{piecesOf, Wrote, Weavable, Begins}
+use Rattle.template.specs.Usable.{piecesOf, Weavable, Begins}
 use Rattle.template.proofs.PieceLaws.{length-weave}
 use Rattle.template.proofs.Steps.{segmentEnd, piecesFrom, window-length, pieces-all, pieces-step, pieces-done}
 use Rattle.template.proofs.Sizes.{static-end, static-step, static-done, end-step, ascends-head, ascends-tail}
-use Rattle.template.proofs.Writing.{wrote-take}
 
-weave-step : (t : Template) (j n : ℕ) → j < n → (pos : ℕ) (w : List ℕ) → weave pos (piecesFrom t j (n - j)) w ≡ take (segmentAt t j .offset - pos) w ++ (window (t .bytes) (segmentAt t j .offset) (segmentAt t j .length) ++ weave (segmentEnd t j) (piecesFrom t (j + 1) (n - (j + 1))) (drop (segmentAt t j .offset - pos) w))
+weave-step : (t : List ℕ) (j n : ℕ) → j < n → (pos : ℕ) (w : List ℕ) → weave pos (piecesFrom t j (n - j)) w ≡ take (segmentAt t j .offset - pos) w ++ (window t (segmentAt t j .offset) (segmentAt t j .length) ++ weave (segmentEnd t j) (piecesFrom t (j + 1) (n - (j + 1))) (drop (segmentAt t j .offset - pos) w))
 unfolding weave
-weave-step t j n h pos w = rw (pieces-step t j n h, window-length (t .bytes) (segmentAt t j .offset) (segmentAt t j .length))
+weave-step t j n h pos w = rw (pieces-step t j n h, window-length t (segmentAt t j .offset) (segmentAt t j .length))
 
-pub record Weaving (t : Template) (v out₀ out : List ℕ) (pos at j : ℕ) : Type 0 where
-  pub turn : j ≤ t .count
+pub record Weaving (t : List ℕ) (v out₀ out : List ℕ) (pos at j : ℕ) : Type 0 where
+  pub turn : j ≤ headOf t .count
   pub inside : at ≤ length v
   pub same : length out ≡ length out₀
-  pub up : Ascends pos (piecesFrom t j (t .count - j))
-  pub reach : lastEnd pos (piecesFrom t j (t .count - j)) ≤ pos + (staticSize (piecesFrom t j (t .count - j)) + (length v - at))
-  pub total : pos + (staticSize (piecesFrom t j (t .count - j)) + (length v - at)) ≡ staticSize (piecesOf t) + length v
-  pub front : take pos out ++ weave pos (piecesFrom t j (t .count - j)) (drop at v) ≡ weave 0 (piecesOf t) v
+  pub up : Ascends pos (piecesFrom t j (headOf t .count - j))
+  pub reach : lastEnd pos (piecesFrom t j (headOf t .count - j)) ≤ pos + (staticSize (piecesFrom t j (headOf t .count - j)) + (length v - at))
+  pub total : pos + (staticSize (piecesFrom t j (headOf t .count - j)) + (length v - at)) ≡ staticSize (piecesOf t) + length v
+  pub front : take pos out ++ weave pos (piecesFrom t j (headOf t .count - j)) (drop at v) ≡ weave 0 (piecesOf t) v
 
-module _ (t : Template) (v out₀ : List ℕ) (ready : Weavable t v out₀) where
+module _ (t : List ℕ) (v out₀ : List ℕ) (ready : Weavable t v out₀) where
   pub weaving-none : Weaving t v out₀ out₀ 0 0 0
   weaving-none =
       record {
@@ -50,54 +49,51 @@ module _ (t : Template) (v out₀ : List ℕ) (ready : Weavable t v out₀) wher
       pub enough : at + (s .offset - pos) ≤ length v
       pub room : s .offset + s .length ≤ length out
 
-    module _ {s : Segment} (h : j < t .count) (q : s ≡ segmentAt t j) where
+    module _ {s : Segment} (h : j < headOf t .count) (q : s ≡ segmentAt t j) where
       pub weaving-ready : Ready s
       weaving-ready =
-          let u = ascends-head t j (t .count) h pos (i .up) in
-          let ps = piecesFrom t (j + 1) (t .count - (j + 1)) in
-          let e = end-step t j (t .count) h pos in
-          let f = static-step t j (t .count) h in
-          let a : segmentEnd t j + staticSize ps ≤ lastEnd (segmentEnd t j) ps = static-end ps (segmentEnd t j) (ascends-tail t j (t .count) h pos (i .up)) in
+          let u = ascends-head t j (headOf t .count) h pos (i .up) in
+          let ps = piecesFrom t (j + 1) (headOf t .count - (j + 1)) in
+          let e = end-step t j (headOf t .count) h pos in
+          let f = static-step t j (headOf t .count) h in
+          let a : segmentEnd t j + staticSize ps ≤ lastEnd (segmentEnd t j) ps = static-end ps (segmentEnd t j) (ascends-tail t j (headOf t .count) h pos (i .up)) in
           rw q (record { upward = u; enough = omega (arith, i .reach); room = omega (arith, i .reach, i .total, i .same, ready .room) })
 
-      pub weaving-more : {out₁ out₂ : List ℕ} {r : ℕ} → Wrote (take (at + (s .offset - pos) - at) (drop at v)) pos out out₁ r → length out₁ ≡ length out
-          → Wrote (window (t .bytes) (s .offset) (s .offset + s .length - s .offset)) (s .offset) out₁ out₂ (s .offset + s .length) → length out₂ ≡ length out₁
+      pub weaving-more : {out₁ out₂ : List ℕ} {r : ℕ} → Put (take (at + (s .offset - pos) - at) (drop at v)) pos out r out₁
+          → Put (window t (s .offset) (s .offset + s .length - s .offset)) (s .offset) out₁ (s .offset + s .length) out₂
           → Weaving t v out₀ out₂ (s .offset + s .length) (at + (s .offset - pos)) (j + 1)
-      weaving-more {out₁} {out₂} {r} w₁ l₁ w₂ l₂ =
+      weaving-more {out₁} {out₂} {r} w₁ w₂ =
           let o = s .offset in
           let m = s .length in
           let g = weaving-ready in
-          let ps = piecesFrom t (j + 1) (t .count - (j + 1)) in
-          let e : lastEnd pos (piecesFrom t j (t .count - j)) ≡ lastEnd (o + m) ps = rw q (end-step t j (t .count) h pos) in
-          let f : staticSize (piecesFrom t j (t .count - j)) ≡ m + staticSize ps = rw q (static-step t j (t .count) h) in
-          let k₁ : pos ≤ length out = omega (arith, g .room, g .upward) in
-          let k₂ : o ≤ length out₁ = omega (arith, g .room) in
+          let ps = piecesFrom t (j + 1) (headOf t .count - (j + 1)) in
+          let e : lastEnd pos (piecesFrom t j (headOf t .count - j)) ≡ lastEnd (o + m) ps = rw q (end-step t j (headOf t .count) h pos) in
+          let f : staticSize (piecesFrom t j (headOf t .count - j)) ≡ m + staticSize ps = rw q (static-step t j (headOf t .count) h) in
           let d₁ : at + (o - pos) - at ≡ o - pos = omega arith in
           let d₂ : o + m - o ≡ m = omega arith in
           let n₁ = length-take-le (at + (o - pos) - at) (drop at v) (omega (arith, length-drop at v, g .enough)) in
-          let q₁ : r ≡ o = omega (arith, w₁ .size, g .upward) in
-          let f₁ : take o out₁ ≡ take pos out ++ take (at + (o - pos) - at) (drop at v) = ap (λ (n : ℕ). take n out₁) (sym q₁) ∙ wrote-take w₁ k₁ in
+          let q₁ : r ≡ o = omega (arith, w₁ .place, g .upward) in
+          let f₁ : take o out₁ ≡ take pos out ++ take (at + (o - pos) - at) (drop at v) = ap (λ (n : ℕ). take n out₁) (sym q₁) ∙ w₁ .front in
           record {
             turn = omega arith;
             inside = g .enough;
-            same = l₂ ∙ l₁ ∙ i .same;
-            up = rw q (ascends-tail t j (t .count) h pos (i .up));
+            same = w₂ .kept ∙ w₁ .kept ∙ i .same;
+            up = rw q (ascends-tail t j (headOf t .count) h pos (i .up));
             reach = omega (arith, i .reach, g .enough, g .upward);
             total = omega (arith, i .total, g .enough, g .upward);
             front =
-                rw (wrote-take w₂ k₂, f₁, d₁, d₂, append-assoc, append-assoc, ← drop-drop (o - pos) at v, q, ← weave-step t j (t .count) h pos (drop at v))
+                rw (w₂ .front, f₁, d₁, d₂, append-assoc, append-assoc, ← drop-drop (o - pos) at v, q, ← weave-step t j (headOf t .count) h pos (drop at v))
                 (i .front);
           }
 
-    pub last-room : t .count ≤ j → pos + (length v - at) ≤ length out
-    last-room h = omega (arith, i .total, i .same, ready .room, static-done t j (t .count) h)
+    pub last-room : headOf t .count ≤ j → pos + (length v - at) ≤ length out
+    last-room h = omega (arith, i .total, i .same, ready .room, static-done t j (headOf t .count) h)
 
-    pub weaving-done : {out′ : List ℕ} {r : ℕ} → t .count ≤ j → Wrote (take (length v - at) (drop at v)) pos out out′ r → Begins (weave 0 (piecesOf t) v) out′ r
+    pub weaving-done : {out′ : List ℕ} {r : ℕ} → headOf t .count ≤ j → Put (take (length v - at) (drop at v)) pos out r out′ → Begins (weave 0 (piecesOf t) v) out′ r
     unfolding weave
     weaving-done {out′} {r} h w =
-        let k : pos ≤ length out = omega (arith, last-room h) in
         let all : take (length v - at) (drop at v) ≡ drop at v = take-all (length v - at) (drop at v) (omega (arith, length-drop at v)) in
         record {
-          size = sym (length-weave (piecesOf t) 0 v ∙ omega (arith, i .total, static-done t j (t .count) h, w .size, ap length all, length-drop at v));
-          front = wrote-take w k ∙ rw all (rw (pieces-done t j (t .count) h) at (i .front));
+          size = sym (length-weave (piecesOf t) 0 v ∙ omega (arith, i .total, static-done t j (headOf t .count) h, w .place, ap length all, length-drop at v));
+          front = w .front ∙ rw all (rw (pieces-done t j (headOf t .count) h) at (i .front));
         }

@@ -1,8 +1,8 @@
 -- The short form and the full form of a packet, and the packet that a datagram stands for.
 use Prim.Native.Nat.{ℕ, _+_}
-use mathlib.Core.Bool.{Bool, true, false, _&&_}
-use mathlib.Core.List.{List, [], _∷_, _++_}
-use lib.Dec.{leb, ltb, eqb}
+use mathlib.Core.Bool.{Bool, _&&_}
+use mathlib.Core.List.{List, _++_}
+use lib.Dec.{leb, eqb}
 use lib.ListN.{length, drop}
 use Rattle.answer.specs.declared.Refusal.{Refusal}
 use Rattle.answer.specs.declared.Refusal.the-variants.{UnknownContext, CutDatagram, PacketTooLong}
@@ -11,9 +11,9 @@ use Rattle.varint.specs.declared.NumberRead.{NumberRead}
 use Rattle.varint.specs.declared.NumberRead.the-variants.{Whole, Cut}
 use Rattle.varint.specs.Numbers.{readNumber, encode}
 use Rattle.inet.specs.Transport.{seed, setField, finish}
-use Rattle.plan.specs.Shapes.{Piece, Sum, noSum, sumAt, Shape}
+use Rattle.table.specs.Templates.{Sum, noSum, sumAt, Template}
 use Rattle.template.specs.Pieces.{strip, weave, staticSize, lastEnd}
-use Rattle.template.specs.Fits.{Choice, full, short, firstFit, withId}
+use Rattle.template.specs.Fits.{Choice, full, short, firstFit, Lookup, missing, listed, withId}
 
 -- the most bytes of a packet
 abbrev pub maxPacket : ℕ
@@ -27,7 +27,7 @@ seeded noSum p = p
 seeded (sumAt field start) p = setField field (seed start p) p
 
 -- short form: Context ID, then the bytes outside all segments with the seed in the field
-unfoldable pub shortForm : Shape → List ℕ → List ℕ
+unfoldable pub shortForm : Template → List ℕ → List ℕ
 shortForm t p = encode (t .id) ++ strip 0 (t .pieces) (seeded (t .sum) p)
 
 -- full form: 0, then the packet
@@ -39,7 +39,7 @@ formOf full p = fullForm p
 formOf (short t) p = shortForm t p
 
 -- the datagram of a packet under some templates
-unfoldable pub datagram : List Shape → List ℕ → List ℕ
+unfoldable pub datagram : List Template → List ℕ → List ℕ
 datagram ts p = formOf (firstFit ts p) p
 
 -- ---- receiving
@@ -50,7 +50,7 @@ completed noSum q = q
 completed (sumAt field start) q = setField field (finish start q) q
 
 -- the packet that the bytes v behind a Context ID stand for
-unfoldable pub rebuilt : Shape → List ℕ → List ℕ
+unfoldable pub rebuilt : Template → List ℕ → List ℕ
 rebuilt t v = completed (t .sum) (weave 0 (t .pieces) v)
 
 abbrev pub sumEnd : Sum → ℕ
@@ -58,7 +58,7 @@ sumEnd noSum = 0
 sumEnd (sumAt field start) = field + 2
 
 -- the bytes v reach the last segment's end and the field's end
-unfoldable pub reaches : Shape → List ℕ → Bool
+unfoldable pub reaches : Template → List ℕ → Bool
 reaches t v =
     leb (lastEnd 0 (t .pieces)) (staticSize (t .pieces) + length v) && leb (sumEnd (t .sum)) (staticSize (t .pieces) + length v)
 
@@ -70,17 +70,17 @@ pub data Opened : Type 0 where
 abbrev pub withinLimit : List ℕ → Opened
 withinLimit q = pick (leb (length q) maxPacket) (packet q) (refused PacketTooLong)
 
-abbrev pub openShort : List ℕ → Choice → Opened
-openShort v full = refused UnknownContext
-openShort v (short t) = pick (reaches t v) (withinLimit (rebuilt t v)) (refused CutDatagram)
+abbrev pub openShort : List ℕ → Lookup → Opened
+openShort v missing = refused UnknownContext
+openShort v (listed t) = pick (reaches t v) (withinLimit (rebuilt t v)) (refused CutDatagram)
 
 -- by the Context ID: 0 is the full form
-abbrev pub openBody : List Shape → ℕ → List ℕ → Opened
+abbrev pub openBody : List Template → ℕ → List ℕ → Opened
 openBody ts id v = pick (eqb id 0) (withinLimit v) (openShort v (withId id ts))
 
-abbrev pub afterId : List Shape → List ℕ → NumberRead → Opened
+abbrev pub afterId : List Template → List ℕ → NumberRead → Opened
 afterId ts d (Whole id n) = openBody ts id (drop n d)
 afterId ts d Cut = refused CutDatagram
 
-unfoldable pub opened : List Shape → List ℕ → Opened
+unfoldable pub opened : List Template → List ℕ → Opened
 opened ts d = afterId ts d (readNumber d)

@@ -9,13 +9,13 @@ use Rattle.varint.specs.Numbers.{readNumber, encode}
 use Rattle.inet.specs.Sum.{words, fold}
 use Rattle.inet.specs.Packet.{protocolByte, put16}
 use Rattle.inet.specs.Transport.{addressWords, seed, fieldIs, sent, finish, completion}
-use Rattle.plan.specs.Shapes.{sumAt, noSum, Shape}
+use Rattle.table.specs.Templates.{sumAt, noSum, Template}
 use Rattle.template.specs.Pieces.{fitsPieces, strip, weave}
 use Rattle.template.specs.Fits.{fits, short, firstFit, withId}
 use Rattle.template.specs.Datagrams.{shortForm, fullForm, datagram, rebuilt, reaches, packet, refused, opened}
 
 -- Context ID 2, both addresses and both ports static, the checksum of UDP
-abbrev udp : Shape
+abbrev udp : Template
 udp =
     record {
       id = 2;
@@ -26,7 +26,7 @@ udp =
       sum = sumAt 26 20;
     }
 
-abbrev plan : List Shape
+abbrev plan : List Template
 plan = udp ∷ []
 
 -- UDP from 192.0.2.3, port 1000, to 198.51.100.2, port 2000, with no data and this checksum
@@ -83,7 +83,7 @@ unfolding fits fitsPieces
 unfit-end = refl
 
 -- of two that fit, the first
-abbrev plain : Shape
+abbrev plain : Template
 plain = record { id = 1; pieces = record { offset = 0; bytes = 0x45 ∷ [] } ∷ []; sum = noSum }
 
 fits-first : firstFit (plain ∷ udp ∷ []) right ≡ short plain
@@ -91,7 +91,7 @@ unfolding firstFit fits fitsPieces
 fits-first = refl
 
 -- a destination port of 4029: the sum comes to 0, so FF FF is the fitting checksum, under a template with the addresses static
-abbrev addresses : Shape
+abbrev addresses : Template
 addresses =
     record {
       id = 3;

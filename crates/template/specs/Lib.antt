@@ -1,7 +1,6 @@
 pub mod Pieces
 pub mod Fits
 pub mod Datagrams
-pub mod Sound
 pub mod Members
 pub mod Usable
 pub mod Examples

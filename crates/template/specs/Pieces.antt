@@ -4,7 +4,7 @@ use mathlib.Core.Bool.{Bool, true, false, _&&_}
 use mathlib.Core.List.{List, [], _∷_, _++_}
 use lib.Dec.{leb, eqb}
 use lib.ListN.{length, take, drop}
-use Rattle.plan.specs.Shapes.{Piece, pieceEnd}
+use Rattle.table.specs.Templates.{Piece, pieceEnd}
 
 -- p begins with b
 abbrev pub begins : List ℕ → List ℕ → Bool

@@ -2,39 +2,34 @@
 ghost use mathlib.Core.Path.{_≡_};
 ghost use Prim.Native.Nat.{_+_, _-_, _≤_, _<_};
 ghost use lib.ListN.{length, take, drop};
-ghost use Rattle.plan.specs.Rules.{maxTemplates, staticLimit};
-ghost use Rattle.plan.specs.Shapes.{shapeOf, templateAt, window};
-ghost use Rattle.lent_plan.specs.Lent.{lentPlan};
+ghost use Rattle.output.specs.Places.{Put};
+ghost use Rattle.table.specs.Limits.{staticLimit};
+ghost use Rattle.table.specs.Words.{templateWords, templateOf, window};
+ghost use Rattle.table.specs.Sound.{UsableTemplate};
 ghost use Rattle.template.specs.Pieces.{strip, weave, staticSize, lastEnd};
 ghost use Rattle.template.specs.Datagrams.{rebuilt, reaches};
-ghost use Rattle.template.specs.Usable.{UsableTemplate, piecesOf, Wrote, Shortenable, Rebuildable, Weavable, Completable, Begins};
+ghost use Rattle.template.specs.Usable.{piecesOf, Shortenable, Rebuildable, Weavable, Completable, Begins};
 ghost use Rattle.inet.specs.Transport.{setField, finish};
 use super::MAX_PACKET;
 use inet::field::put_word;
 use inet::transport::finish;
-use lent_plan::PLAN_WORDS;
-use lent_plan::byte_at;
-use lent_plan::head_at;
-use lent_plan::segment_at;
+use output::put_bytes;
+use table::byte_at;
+use table::head_of;
+use table::segment_at;
 
 // Writes the image's bytes outside the segments to out from the place at on, and returns the place behind them.
-pub fn shorten(
-    words: &[u64; PLAN_WORDS],
-    i: usize,
-    image: &[u8],
-    out: &mut [u8],
-    at: usize,
-) -> usize
-    requires { ⌜ i < maxTemplates ⌝ }
-    requires { ⌜ Shortenable (templateAt (lentPlan (now words)) i) (now image) (now out) at ⌝ }
-    ensures { λ r. ⌜ Wrote (strip 0 (piecesOf (templateAt (lentPlan (now (words .entry))) i)) (now (image .entry))) at (now (out .entry)) (now (out .exit)) r ⌝ }
+pub fn shorten(t: &[u64], image: &[u8], out: &mut [u8], at: usize) -> usize
+    requires { ⌜ templateWords ≤ length (now t) ⌝ }
+    requires { ⌜ Shortenable (now t) (now image) (now out) at ⌝ }
+    ensures { λ r. ⌜ Put (strip 0 (piecesOf (now (t .entry))) (now (image .entry))) at (now (out .entry)) r (now (out .exit)) ⌝ }
 {
-    let n = head_at(words, i).count;
+    let n = head_of(t).count;
     let mut pos: usize = 0;
     let mut next = at;
     let mut j: usize = 0;
     while j < n {
-        let s = segment_at(words, i, j);
+        let s = segment_at(t, j);
         let off = s.offset;
         next = copy_range(image, pos, off, out, next);
         pos = off + s.length;
@@ -46,23 +41,22 @@ pub fn shorten(
 // Copies src[from..to] to out from the place at on, and returns the place behind it.
 fn copy_range(src: &[u8], from: usize, to: usize, out: &mut [u8], at: usize) -> usize
     requires { ⌜ (from ≤ to) × (to ≤ length (now src)) × (at + (to - from) ≤ length (now out)) ⌝ }
-    ensures { λ r. ⌜ Wrote (take (to - from) (drop from (now (src .entry)))) at (now (out .entry)) (now (out .exit)) r ⌝ }
+    ensures { λ r. ⌜ Put (take (to - from) (drop from (now (src .entry)))) at (now (out .entry)) r (now (out .exit)) ⌝ }
 {
-    let n = bytes::copy(&src[from..to], &mut out[at..]);
-    at + n
+    put_bytes(out, at, &src[from..to])
 }
 
 // Whether the bytes behind a Context ID reach the last segment's end and the field's end.
-pub fn reaches(words: &[u64; PLAN_WORDS], i: usize, body: &[u8]) -> bool
-    requires { ⌜ i < maxTemplates ⌝ }
-    requires { ⌜ UsableTemplate (templateAt (lentPlan (now words)) i) ⌝ }
-    ensures { λ r. ⌜ r ≡ reaches (shapeOf (templateAt (lentPlan (now (words .entry))) i)) (now (body .entry)) ⌝ }
+pub fn reaches(t: &[u64], body: &[u8]) -> bool
+    requires { ⌜ templateWords ≤ length (now t) ⌝ }
+    requires { ⌜ UsableTemplate (now t) ⌝ }
+    ensures { λ r. ⌜ r ≡ reaches (templateOf (now (t .entry))) (now (body .entry)) ⌝ }
 {
-    let n = rebuilt_length(words, i, body);
-    if n < last_end(words, i) {
+    let n = rebuilt_length(t, body);
+    if n < last_end(t) {
         return false;
     }
-    let head = head_at(words, i);
+    let head = head_of(t);
     if head.checksum {
         return head.field + 2 <= n;
     }
@@ -70,25 +64,25 @@ pub fn reaches(words: &[u64; PLAN_WORDS], i: usize, body: &[u8]) -> bool
 }
 
 // The length of the packet that those bytes stand for.
-pub fn rebuilt_length(words: &[u64; PLAN_WORDS], i: usize, body: &[u8]) -> usize
-    requires { ⌜ i < maxTemplates ⌝ }
-    requires { ⌜ UsableTemplate (templateAt (lentPlan (now words)) i) ⌝ }
-    ensures { λ r. ⌜ r ≡ staticSize (piecesOf (templateAt (lentPlan (now (words .entry))) i)) + length (now (body .entry)) ⌝ }
+pub fn rebuilt_length(t: &[u64], body: &[u8]) -> usize
+    requires { ⌜ templateWords ≤ length (now t) ⌝ }
+    requires { ⌜ UsableTemplate (now t) ⌝ }
+    ensures { λ r. ⌜ r ≡ staticSize (piecesOf (now (t .entry))) + length (now (body .entry)) ⌝ }
 {
-    static_size(words, i) + body.len()
+    static_size(t) + body.len()
 }
 
 // How many bytes the segments hold.
-fn static_size(words: &[u64; PLAN_WORDS], i: usize) -> usize
-    requires { ⌜ i < maxTemplates ⌝ }
-    requires { ⌜ UsableTemplate (templateAt (lentPlan (now words)) i) ⌝ }
-    ensures { λ r. ⌜ (r ≡ staticSize (piecesOf (templateAt (lentPlan (now (words .entry))) i))) × (r ≤ staticLimit) ⌝ }
+fn static_size(t: &[u64]) -> usize
+    requires { ⌜ templateWords ≤ length (now t) ⌝ }
+    requires { ⌜ UsableTemplate (now t) ⌝ }
+    ensures { λ r. ⌜ (r ≡ staticSize (piecesOf (now (t .entry)))) × (r ≤ staticLimit) ⌝ }
 {
-    let n = head_at(words, i).count;
+    let n = head_of(t).count;
     let mut size: usize = 0;
     let mut j: usize = 0;
     while j < n {
-        let s = segment_at(words, i, j);
+        let s = segment_at(t, j);
         size += s.length;
         j += 1;
     }
@@ -96,32 +90,27 @@ fn static_size(words: &[u64; PLAN_WORDS], i: usize) -> usize
 }
 
 // Where the last segment ends.
-fn last_end(words: &[u64; PLAN_WORDS], i: usize) -> usize
-    requires { ⌜ i < maxTemplates ⌝ }
-    requires { ⌜ UsableTemplate (templateAt (lentPlan (now words)) i) ⌝ }
-    ensures { λ r. ⌜ r ≡ lastEnd 0 (piecesOf (templateAt (lentPlan (now (words .entry))) i)) ⌝ }
+fn last_end(t: &[u64]) -> usize
+    requires { ⌜ templateWords ≤ length (now t) ⌝ }
+    requires { ⌜ UsableTemplate (now t) ⌝ }
+    ensures { λ r. ⌜ r ≡ lastEnd 0 (piecesOf (now (t .entry))) ⌝ }
 {
-    let n = head_at(words, i).count;
+    let n = head_of(t).count;
     if n == 0 {
         return 0;
     }
-    let s = segment_at(words, i, n - 1);
+    let s = segment_at(t, n - 1);
     s.offset + s.length
 }
 
 // Builds the packet at the front of image, completes its sum, and returns its length.
-pub fn rebuild(
-    words: &[u64; PLAN_WORDS],
-    i: usize,
-    body: &[u8],
-    image: &mut [u8; MAX_PACKET],
-) -> usize
-    requires { ⌜ i < maxTemplates ⌝ }
-    requires { ⌜ Rebuildable (templateAt (lentPlan (now words)) i) (now body) ⌝ }
-    ensures { λ r. ⌜ Begins (rebuilt (shapeOf (templateAt (lentPlan (now (words .entry))) i)) (now (body .entry))) (now (image .exit)) r ⌝ }
+pub fn rebuild(t: &[u64], body: &[u8], image: &mut [u8; MAX_PACKET]) -> usize
+    requires { ⌜ templateWords ≤ length (now t) ⌝ }
+    requires { ⌜ Rebuildable (now t) (now body) ⌝ }
+    ensures { λ r. ⌜ Begins (rebuilt (templateOf (now (t .entry))) (now (body .entry))) (now (image .exit)) r ⌝ }
 {
-    let n = weave_into(words, i, body, image);
-    let head = head_at(words, i);
+    let n = weave_into(t, body, image);
+    let head = head_of(t);
     if head.checksum {
         complete(image, n, head.field, head.start);
     }
@@ -138,22 +127,22 @@ fn complete(image: &mut [u8], n: usize, field: usize, start: usize)
 }
 
 // Puts the segments' bytes and the others together. Both stand at their places: pos is the end of what is written.
-fn weave_into(words: &[u64; PLAN_WORDS], i: usize, body: &[u8], image: &mut [u8]) -> usize
-    requires { ⌜ i < maxTemplates ⌝ }
-    requires { ⌜ Weavable (templateAt (lentPlan (now words)) i) (now body) (now image) ⌝ }
-    ensures { λ r. ⌜ Begins (weave 0 (piecesOf (templateAt (lentPlan (now (words .entry))) i)) (now (body .entry))) (now (image .exit)) r ⌝ }
+fn weave_into(t: &[u64], body: &[u8], image: &mut [u8]) -> usize
+    requires { ⌜ templateWords ≤ length (now t) ⌝ }
+    requires { ⌜ Weavable (now t) (now body) (now image) ⌝ }
+    ensures { λ r. ⌜ Begins (weave 0 (piecesOf (now (t .entry))) (now (body .entry))) (now (image .exit)) r ⌝ }
 {
-    let n = head_at(words, i).count;
+    let n = head_of(t).count;
     let mut pos: usize = 0;
     let mut at: usize = 0;
     let mut j: usize = 0;
     while j < n {
-        let s = segment_at(words, i, j);
+        let s = segment_at(t, j);
         let off = s.offset;
         let end = off + s.length;
         let to = at + (off - pos);
         copy_range(body, at, to, image, pos);
-        put_static(words, i, off, end, image);
+        put_static(t, off, end, image);
         pos = end;
         at = to;
         j += 1;
@@ -161,15 +150,15 @@ fn weave_into(words: &[u64; PLAN_WORDS], i: usize, body: &[u8], image: &mut [u8]
     copy_range(body, at, body.len(), image, pos)
 }
 
-// Puts the static bytes of the positions from..to of template i at their places in image.
-fn put_static(words: &[u64; PLAN_WORDS], i: usize, from: usize, to: usize, image: &mut [u8])
-    requires { ⌜ i < maxTemplates ⌝ }
+// Puts the static bytes of the positions from..to of a template at their places in image.
+fn put_static(t: &[u64], from: usize, to: usize, image: &mut [u8])
+    requires { ⌜ templateWords ≤ length (now t) ⌝ }
     requires { ⌜ (from ≤ to) × (to ≤ staticLimit) × (to ≤ length (now image)) ⌝ }
-    ensures { λ _. ⌜ Wrote (window (templateAt (lentPlan (now (words .entry))) i .bytes) from (to - from)) from (now (image .entry)) (now (image .exit)) to ⌝ }
+    ensures { λ _. ⌜ Put (window (now (t .entry)) from (to - from)) from (now (image .entry)) to (now (image .exit)) ⌝ }
 {
     let mut k = from;
     while k < to {
-        image[k] = byte_at(words, i, k);
+        image[k] = byte_at(t, k);
         k += 1;
     }
 }

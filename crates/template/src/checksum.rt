@@ -3,9 +3,8 @@ ghost use mathlib.Core.Path.{_≡_};
 ghost use Prim.Native.Nat.{_≤_, _<_, _+_};
 ghost use lib.ListN.{length};
 ghost use Rattle.inet.specs.Transport.{completion};
-ghost use Rattle.plan.specs.Rules.{maxTemplates};
-ghost use Rattle.plan.specs.Shapes.{sumAt, shapeOf, templateAt};
-ghost use Rattle.lent_plan.specs.Lent.{lentPlan};
+ghost use Rattle.table.specs.Templates.{sumAt};
+ghost use Rattle.table.specs.Words.{templateWords, templateOf};
 ghost use Rattle.template.specs.Fits.{fitsSum};
 ghost use Rattle.template.specs.Datagrams.{seeded};
 ghost use Rattle.template.specs.Usable.{Testable, SumPlace, Seedable};
@@ -17,8 +16,7 @@ use inet::sum::folded;
 use inet::sum::sum_words;
 use inet::sum::word;
 use inet::transport::seed;
-use lent_plan::PLAN_WORDS;
-use lent_plan::head_at;
+use table::head_of;
 
 // Whether the field lies in the packet and holds the right checksum.
 pub fn sum_fits(packet: &[u8], field: usize, start: usize) -> bool
@@ -33,13 +31,13 @@ pub fn sum_fits(packet: &[u8], field: usize, start: usize) -> bool
     field_is(packet, field, v)
 }
 
-// Puts the seed into the field of template i, where it has a checksum.
-pub fn put_seed(words: &[u64; PLAN_WORDS], i: usize, image: &mut [u8])
-    requires { ⌜ i < maxTemplates ⌝ }
-    requires { ⌜ Seedable (templateAt (lentPlan (now words)) i) (now image) ⌝ }
-    ensures { λ _. ⌜ now (image .exit) ≡ seeded (shapeOf (templateAt (lentPlan (now (words .entry))) i) .sum) (now (image .entry)) ⌝ }
+// Puts the seed into the field of a template, where it has a checksum.
+pub fn put_seed(t: &[u64], image: &mut [u8])
+    requires { ⌜ templateWords ≤ length (now t) ⌝ }
+    requires { ⌜ Seedable (now t) (now image) ⌝ }
+    ensures { λ _. ⌜ now (image .exit) ≡ seeded (templateOf (now (t .entry)) .sum) (now (image .entry)) ⌝ }
 {
-    let head = head_at(words, i);
+    let head = head_of(t);
     if head.checksum {
         let first = seed(image, head.start);
         put_word(image, head.field, first);

@@ -1,41 +1,47 @@
-// The search in a lent plan.
+// The search in a table.
 ghost use mathlib.Core.Path.{_≡_};
-ghost use Rattle.plan.specs.Shapes.{shapesOf};
-ghost use Rattle.lent_plan.specs.Lent.{lentPlan};
+ghost use Prim.Native.Nat.{_≤_};
+ghost use lib.ListN.{length};
+ghost use Rattle.table.specs.Words.{tableWords, countIn, templatesOf};
+ghost use Rattle.table.specs.Sound.{Usable};
 ghost use Rattle.template.specs.Fits.{firstFit, withId};
-ghost use Rattle.template.specs.Usable.{Usable, Testable, Chosen};
+ghost use Rattle.template.specs.Usable.{Testable, Chosen, Listed};
 use super::Found;
 use super::checksum::sum_fits;
-use lent_plan::PLAN_WORDS;
-use lent_plan::byte_at;
-use lent_plan::head_at;
-use lent_plan::segment_at;
-use plan::ContextId;
+use table::ContextId;
+use table::TEMPLATE_WORDS;
+use table::byte_at;
+use table::head_of;
+use table::segment_at;
 
 // The first template that fits the packet: of ascending Context IDs the lowest. The search stops there.
-pub fn find(words: &[u64; PLAN_WORDS], packet: &[u8]) -> Found
-    requires { ⌜ Usable (lentPlan (now words)) ⌝ }
+pub fn find(table: &[u64], packet: &[u8]) -> Found
+    requires { ⌜ tableWords ≤ length (now table) ⌝ }
+    requires { ⌜ Usable (now table) ⌝ }
     requires { ⌜ Testable (now packet) ⌝ }
-    ensures { λ r. ⌜ Chosen (lentPlan (now (words .entry))) (firstFit (shapesOf (lentPlan (now (words .entry)))) (now (packet .entry))) r ⌝ }
+    ensures { λ r. ⌜ Chosen (now (table .entry)) (firstFit (templatesOf (now (table .entry))) (now (packet .entry))) r ⌝ }
 {
-    let count = count_of(words);
+    let count = count_of(table);
     let mut answer = Found::Nothing;
     let mut next: usize = 0;
     'templates: while next < count {
         let i = next;
         next += 1;
-        let head = head_at(words, i);
+        let from = 1 + i * TEMPLATE_WORDS;
+        let end = from + TEMPLATE_WORDS;
+        let t = &table[from..end];
+        let head = head_of(t);
         let n = head.count;
         let mut j: usize = 0;
         'segments: while j < n {
-            let s = segment_at(words, i, j);
+            let s = segment_at(t, j);
             let mut k = s.offset;
-            let end = k + s.length;
-            if packet.len() < end {
+            let stop = k + s.length;
+            if packet.len() < stop {
                 continue 'templates;
             }
-            'bytes: while k < end {
-                if packet[k] != byte_at(words, i, k) {
+            'bytes: while k < stop {
+                if packet[k] != byte_at(t, k) {
                     continue 'templates;
                 }
                 k += 1;
@@ -54,15 +60,18 @@ pub fn find(words: &[u64; PLAN_WORDS], packet: &[u8]) -> Found
 }
 
 // The template with a Context ID.
-pub fn find_id(words: &[u64; PLAN_WORDS], id: ContextId) -> Found
-    requires { ⌜ Usable (lentPlan (now words)) ⌝ }
-    ensures { λ r. ⌜ Chosen (lentPlan (now (words .entry))) (withId (id .0) (shapesOf (lentPlan (now (words .entry))))) r ⌝ }
+pub fn find_id(table: &[u64], id: ContextId) -> Found
+    requires { ⌜ tableWords ≤ length (now table) ⌝ }
+    requires { ⌜ Usable (now table) ⌝ }
+    ensures { λ r. ⌜ Listed (now (table .entry)) (withId (id .0) (templatesOf (now (table .entry)))) r ⌝ }
 {
-    let count = count_of(words);
+    let count = count_of(table);
     let wanted = id.0;
     let mut i: usize = 0;
     while i < count {
-        let head = head_at(words, i);
+        let from = 1 + i * TEMPLATE_WORDS;
+        let end = from + TEMPLATE_WORDS;
+        let head = head_of(&table[from..end]);
         let own = head.id;
         if own.0 == wanted {
             return Found::At(i);
@@ -73,8 +82,9 @@ pub fn find_id(words: &[u64; PLAN_WORDS], id: ContextId) -> Found
 }
 
 // How many templates there are.
-fn count_of(words: &[u64; PLAN_WORDS]) -> usize
-    ensures { λ r. ⌜ r ≡ lentPlan (now (words .entry)) .count ⌝ }
+fn count_of(table: &[u64]) -> usize
+    requires { ⌜ tableWords ≤ length (now table) ⌝ }
+    ensures { λ r. ⌜ r ≡ countIn (now (table .entry)) ⌝ }
 {
-    words[0] as usize
+    table[0] as usize
 }

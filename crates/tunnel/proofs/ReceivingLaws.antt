@@ -14,106 +14,102 @@ use Rattle.answer.specs.declared.Verdict.the-variants.{Go, Stop}
 use Rattle.answer.specs.Choice.{pick}
 use Rattle.answer.specs.Verdict.{firstOf, _then_}
 use Rattle.answer.proofs.Tables.{go-test, go-rest, then-first, then-second}
-use Rattle.answer.proofs.Tests.{and-both}
 use Rattle.varint.specs.declared.NumberRead.{NumberRead}
 use Rattle.varint.specs.declared.NumberRead.the-variants.{Whole, Cut}
 use Rattle.varint.specs.Numbers.{readNumber}
 use Rattle.inet.specs.Packet.{form}
-use Rattle.grant.specs.declared.Grants.{Grants}
-use Rattle.grant.specs.State.{soundGrants, receivingGranted}
-use Rattle.plan.specs.declared.Plan.{Plan}
-use Rattle.plan.specs.Shapes.{Shape, shapesOf}
-use Rattle.plan.specs.Rules.{soundPlan}
-use Rattle.template.specs.Fits.{Choice, full, short, withId}
+use Rattle.policy.specs.declared.Flow.{Flow}
+use Rattle.policy.specs.Granted.{flowOf, passes}
+use Rattle.table.specs.Templates.{Template}
+use Rattle.state.specs.State.{State, soundState, receivingGranted}
+use Rattle.template.specs.Fits.{Lookup, missing, listed, withId}
 use Rattle.template.specs.Datagrams.{maxPacket, rebuilt, reaches, Opened, refused, packet, withinLimit, openShort, openBody, afterId, opened}
-use Rattle.tunnel.specs.Tunnel.{receiveRoom, soundState, receiveTests, packetTests, openedVerdict, openedBytes, receiveVerdict, receivedBytes}
+use Rattle.tunnel.specs.Tunnel.{receiveRoom, receiveTests, packetTests, openedVerdict, openedBytes, receiveVerdict, receivedBytes}
 
--- what is handed in is sound, and there is room
-pub record StateGo (g : Grants) (plan : Plan) (n : ℕ) : Type 0 where
+-- the state is sound, and there is room
+pub record StateGo (s : State) (n : ℕ) : Type 0 where
   pub room : receiveRoom ≤ n
-  pub grants-sound : soundGrants g ≡ true
-  pub plan-sound : soundPlan plan ≡ true
+  pub sound : soundState s ≡ true
 
-module _ (g : Grants) (plan : Plan) (n : ℕ) where
-  pub state-facts : firstOf (receiveTests g plan n) ≡ Go → StateGo g plan n
+module _ (s : State) (n : ℕ) where
+  pub state-go : firstOf (receiveTests s n) ≡ Go → StateGo s n
   unfolding receiveTests
-  state-facts e =
+  state-go e =
       let r = go-rest (ltb n receiveRoom) NoRoom _ e in
-      let s = not-false (soundState g plan) (go-test (not (soundState g plan)) BrokenState Go r) in
-      let b = and-both (soundGrants g) (soundPlan plan) s in
       record {
         room = ltb-false n receiveRoom (go-test (ltb n receiveRoom) NoRoom _ e);
-        grants-sound = b .0;
-        plan-sound = b .1;
+        sound = not-false (soundState s) (go-test (not (soundState s)) BrokenState Go r);
       }
 
-  pub facts-state : StateGo g plan n → firstOf (receiveTests g plan n) ≡ Go
+  pub go-state : StateGo s n → firstOf (receiveTests s n) ≡ Go
   unfolding receiveTests
-  facts-state s = rw (le-ltb n receiveRoom (s .room), s .grants-sound, s .plan-sound)
+  go-state g = rw (le-ltb n receiveRoom (g .room), g .sound)
+
+-- what the code asks of the policy
+pub receiving-by : (s : State) (p : List ℕ) {f : Flow} {b : Bool} → f ≡ flowOf p → b ≡ passes (s .given) (s .received) f → b ≡ receivingGranted s p
+unfolding receivingGranted
+receiving-by s p e q = q ∙ ap (passes (s .given) (s .received)) e
 
 -- the tests of a packet
-module _ (g : Grants) (q : List ℕ) where
-  pub packet-facts : firstOf (packetTests g q) ≡ Go → (form q ≡ true) × (receivingGranted g q ≡ true)
+module _ (s : State) (q : List ℕ) where
+  pub packet-facts : firstOf (packetTests s q) ≡ Go → (form q ≡ true) × (receivingGranted s q ≡ true)
   unfolding packetTests
   packet-facts e = (
     not-false (form q) (go-test (not (form q)) BadForm _ e),
-    not-false (receivingGranted g q) (go-test (not (receivingGranted g q)) NotGranted Go (go-rest (not (form q)) BadForm _ e)),
+    not-false (receivingGranted s q) (go-test (not (receivingGranted s q)) NotGranted Go (go-rest (not (form q)) BadForm _ e)),
   )
 
-  pub facts-packet : form q ≡ true → receivingGranted g q ≡ true → firstOf (packetTests g q) ≡ Go
+  pub facts-packet : form q ≡ true → receivingGranted s q ≡ true → firstOf (packetTests s q) ≡ Go
   unfolding packetTests
   facts-packet e f = rw (e, f)
 
 -- what a `Go` says of the packet that a datagram stands for
-record OpenedGo (g : Grants) (o : Opened) : Type 0 where
+record OpenedGo (s : State) (o : Opened) : Type 0 where
   stands : o ≡ packet (openedBytes o)
   good-form : form (openedBytes o) ≡ true
-  granted : receivingGranted g (openedBytes o) ≡ true
+  granted : receivingGranted s (openedBytes o) ≡ true
 
-opened-facts : (g : Grants) (o : Opened) → openedVerdict g o ≡ Go → OpenedGo g o
-opened-facts g (refused r) e = let z : _≡_ {A = ℕ} 0 1 = cc in absurd (omega arith)
-opened-facts g (packet q) e =
-    let f = packet-facts g q e in
+opened-facts : (s : State) (o : Opened) → openedVerdict s o ≡ Go → OpenedGo s o
+opened-facts s (refused r) e = let z : _≡_ {A = ℕ} 0 1 = cc in absurd (omega arith)
+opened-facts s (packet q) e =
+    let f = packet-facts s q e in
     record { stands = refl; good-form = f .0; granted = f .1 }
 
 -- what a `Go` to take a datagram in says
-pub record ReceiveGo (g : Grants) (plan : Plan) (d : List ℕ) (n : ℕ) : Type 0 where
-  pub state : StateGo g plan n
-  pub stands : opened (shapesOf plan) d ≡ packet (receivedBytes plan d)
-  pub good-form : form (receivedBytes plan d) ≡ true
-  pub granted : receivingGranted g (receivedBytes plan d) ≡ true
+pub record ReceiveGo (s : State) (d : List ℕ) (n : ℕ) : Type 0 where
+  pub state : StateGo s n
+  pub stands : opened (s .templates) d ≡ packet (receivedBytes s d)
+  pub good-form : form (receivedBytes s d) ≡ true
+  pub granted : receivingGranted s (receivedBytes s d) ≡ true
 
-module _ (g : Grants) (plan : Plan) (d : List ℕ) (n : ℕ) where
+module _ (s : State) (d : List ℕ) (n : ℕ) where
   -- with room and a sound state, the packet decides
-  pub receive-opened : receiveRoom ≤ n → soundGrants g ≡ true → soundPlan plan ≡ true
-      → receiveVerdict g plan d n ≡ openedVerdict g (opened (shapesOf plan) d)
+  pub receive-opened : StateGo s n → receiveVerdict s d n ≡ openedVerdict s (opened (s .templates) d)
   unfolding receiveVerdict
-  receive-opened r s p =
-      ap (λ (v : Verdict). v then openedVerdict g (opened (shapesOf plan) d))
-      (facts-state g plan n (record { room = r; grants-sound = s; plan-sound = p }))
+  receive-opened g = ap (λ (v : Verdict). v then openedVerdict s (opened (s .templates) d)) (go-state s n g)
 
   -- without, they do
-  pub receive-state : {r : Refusal} → firstOf (receiveTests g plan n) ≡ Stop r → receiveVerdict g plan d n ≡ Stop r
+  pub receive-state : {r : Refusal} → firstOf (receiveTests s n) ≡ Stop r → receiveVerdict s d n ≡ Stop r
   unfolding receiveVerdict
-  receive-state e = ap (λ (v : Verdict). v then openedVerdict g (opened (shapesOf plan) d)) e
+  receive-state e = ap (λ (v : Verdict). v then openedVerdict s (opened (s .templates) d)) e
 
-  pub receive-go : receiveVerdict g plan d n ≡ Go → ReceiveGo g plan d n
+  pub receive-go : receiveVerdict s d n ≡ Go → ReceiveGo s d n
   unfolding receiveVerdict receivedBytes
   receive-go e =
-      let a = then-first (firstOf (receiveTests g plan n)) (openedVerdict g (opened (shapesOf plan) d)) e in
-      let b = then-second (firstOf (receiveTests g plan n)) (openedVerdict g (opened (shapesOf plan) d)) e in
-      let f = opened-facts g (opened (shapesOf plan) d) b in
-      record { state = state-facts g plan n a; stands = f .stands; good-form = f .good-form; granted = f .granted }
+      let a = then-first (firstOf (receiveTests s n)) (openedVerdict s (opened (s .templates) d)) e in
+      let b = then-second (firstOf (receiveTests s n)) (openedVerdict s (opened (s .templates) d)) e in
+      let f = opened-facts s (opened (s .templates) d) b in
+      record { state = state-go s n a; stands = f .stands; good-form = f .good-form; granted = f .granted }
 
-  pub go-receive : ReceiveGo g plan d n → receiveVerdict g plan d n ≡ Go
+  pub go-receive : ReceiveGo s d n → receiveVerdict s d n ≡ Go
   go-receive k =
-      receive-opened (k .state .room) (k .state .grants-sound) (k .state .plan-sound) ∙ ap (openedVerdict g) (k .stands)
-      ∙ facts-packet g (receivedBytes plan d) (k .good-form) (k .granted)
+      receive-opened (k .state) ∙ ap (openedVerdict s) (k .stands)
+      ∙ facts-packet s (receivedBytes s d) (k .good-form) (k .granted)
 
 -- what is received is the packet that the datagram stands for
-pub received-packet : (plan : Plan) (d q : List ℕ) → opened (shapesOf plan) d ≡ packet q → receivedBytes plan d ≡ q
+pub received-packet : (s : State) (d q : List ℕ) → opened (s .templates) d ≡ packet q → receivedBytes s d ≡ q
 unfolding receivedBytes
-received-packet plan d q e = ap openedBytes e
+received-packet s d q e = ap openedBytes e
 
 -- ---- no datagram stands for a packet over the limit
 
@@ -130,25 +126,25 @@ within-most v q h = go (leb (length v) maxPacket) refl h
     go true e f = let l = leb-true (length v) maxPacket e in omega (arith, ap length (packet-same f))
     go false e f = absurd (refused-not f)
 
-short-most : (v q : List ℕ) (c : Choice) → openShort v c ≡ packet q → length q ≤ maxPacket
-short-most v q full h = absurd (refused-not h)
-short-most v q (short t) h = go (reaches t v) h
+short-most : (v q : List ℕ) (c : Lookup) → openShort v c ≡ packet q → length q ≤ maxPacket
+short-most v q missing h = absurd (refused-not h)
+short-most v q (listed t) h = go (reaches t v) h
   where
     go : (b : Bool) → pick b (withinLimit (rebuilt t v)) (refused CutDatagram) ≡ packet q → length q ≤ maxPacket
     go true f = within-most (rebuilt t v) q f
     go false f = absurd (refused-not f)
 
-body-most : (ts : List Shape) (id : ℕ) (v q : List ℕ) → openBody ts id v ≡ packet q → length q ≤ maxPacket
+body-most : (ts : List Template) (id : ℕ) (v q : List ℕ) → openBody ts id v ≡ packet q → length q ≤ maxPacket
 body-most ts id v q h = go (eqb id 0) h
   where
     go : (b : Bool) → pick b (withinLimit v) (openShort v (withId id ts)) ≡ packet q → length q ≤ maxPacket
     go true f = within-most v q f
     go false f = short-most v q (withId id ts) f
 
-after-most : (ts : List Shape) (d q : List ℕ) (r : NumberRead) → afterId ts d r ≡ packet q → length q ≤ maxPacket
+after-most : (ts : List Template) (d q : List ℕ) (r : NumberRead) → afterId ts d r ≡ packet q → length q ≤ maxPacket
 after-most ts d q (Whole id n) h = body-most ts id (drop n d) q h
 after-most ts d q Cut h = absurd (refused-not h)
 
-pub opened-most : (ts : List Shape) (d q : List ℕ) → opened ts d ≡ packet q → length q ≤ maxPacket
+pub opened-most : (ts : List Template) (d q : List ℕ) → opened ts d ≡ packet q → length q ≤ maxPacket
 unfolding opened
 opened-most ts d q h = after-most ts d q (readNumber d) h

@@ -13,16 +13,16 @@ use Rattle.answer.specs.declared.Refusal.{Refusal}
 use Rattle.answer.specs.declared.Refusal.the-variants.{UnknownContext, CutDatagram, PacketTooLong}
 use Rattle.varint.specs.declared.NumberRead.the-variants.{Whole}
 use Rattle.varint.specs.Numbers.{readNumber}
-use Rattle.plan.specs.declared.Template.{Template}
-use Rattle.plan.specs.declared.Plan.{Plan}
-use Rattle.plan.specs.Rules.{maxTemplates}
-use Rattle.plan.specs.Shapes.{Shape, shapeOf, templateAt}
+use Rattle.table.specs.Limits.{maxTemplates}
+use Rattle.table.specs.Templates.{Template}
+use Rattle.table.specs.Words.{templateOf, countIn, wordsAt}
+use Rattle.table.specs.Sound.{UsableTemplate, Usable}
 use Rattle.template.specs.declared.Found.{Found}
 use Rattle.template.specs.declared.Found.the-variants.{At, Nothing}
 use Rattle.template.specs.Pieces.{staticSize}
-use Rattle.template.specs.Fits.{Choice, short, withId}
+use Rattle.template.specs.Fits.{Lookup, listed, withId}
 use Rattle.template.specs.Datagrams.{maxPacket, rebuilt, reaches, Opened, refused, packet, withinLimit, openShort, opened}
-use Rattle.template.specs.Usable.{UsableTemplate, Usable, piecesOf, choiceAt, Chosen, Rebuildable, Begins}
+use Rattle.template.specs.Usable.{piecesOf, lookupAt, Listed, Rebuildable, Begins}
 use Rattle.template.proofs.RebuildLaws.{length-rebuilt}
 use Rattle.tunnel.specs.declared.receiving.OpenRead.{OpenRead}
 use Rattle.tunnel.specs.declared.receiving.OpenRead.the-variants.{Packet, Refused}
@@ -75,7 +75,7 @@ pub opens-told : {o : Opened} {x y : OpenRead} {image : List ℕ} → Opens o x 
 opens-told k e = rw e at k
 
 -- a packet is within the limit, and so within an output that has room
-pub opens-room : (ts : List Shape) (d : List ℕ) {n m : ℕ} {image : List ℕ} → Opens (opened ts d) (Packet n) image → receiveRoom ≤ m
+pub opens-room : (ts : List Template) (d : List ℕ) {n m : ℕ} {image : List ℕ} → Opens (opened ts d) (Packet n) image → receiveRoom ≤ m
     → length (take n image) ≤ m
 opens-room ts d {n} {m} {image} k h =
     let l = opened-most ts d (take n image) (opens-front (opened ts d) k) in
@@ -98,44 +98,46 @@ full-opens v image {image′} {n} h l e =
 
 -- ---- the short form
 
-module _ (t : Template) (v : List ℕ) {s : Bool} (e : s ≡ reaches (shapeOf t) v) where
-  pub short-cut : s ≡ false → openShort v (short (shapeOf t)) ≡ refused CutDatagram
+module _ (t v : List ℕ) {s : Bool} (e : s ≡ reaches (templateOf t) v) where
+  pub short-cut : s ≡ false → openShort v (listed (templateOf t)) ≡ refused CutDatagram
   short-cut f = rw (sym e ∙ f)
 
   module _ (f : s ≡ true) {n : ℕ} (l : n ≡ staticSize (piecesOf t) + length v) where
-    pub short-long : maxPacket < n → openShort v (short (shapeOf t)) ≡ refused PacketTooLong
-    short-long h = rw (sym e ∙ f) (over-limit (rebuilt (shapeOf t) v) (omega (arith, length-rebuilt (shapeOf t) v)))
+    pub short-long : maxPacket < n → openShort v (listed (templateOf t)) ≡ refused PacketTooLong
+    short-long h = rw (sym e ∙ f) (over-limit (rebuilt (templateOf t) v) (omega (arith, length-rebuilt (templateOf t) v)))
 
     pub rebuildable : UsableTemplate t → n ≤ maxPacket → Rebuildable t v
     rebuildable u h = record { usable = u; reach = sym e ∙ f; small = omega arith }
 
-    pub short-opens : {m : ℕ} {image : List ℕ} → n ≤ maxPacket → Begins (rebuilt (shapeOf t) v) image m → Opens (openShort v (short (shapeOf t))) (Packet m) image
+    pub short-opens : {m : ℕ} {image : List ℕ} → n ≤ maxPacket → Begins (rebuilt (templateOf t) v) image m → Opens (openShort v (listed (templateOf t))) (Packet m) image
     short-opens h b =
-        opens-packet (rebuilt (shapeOf t) v)
-        (rw (sym e ∙ f) (within-limit (rebuilt (shapeOf t) v) (omega (arith, length-rebuilt (shapeOf t) v))))
+        opens-packet (rebuilt (templateOf t) v)
+        (rw (sym e ∙ f) (within-limit (rebuilt (templateOf t) v) (omega (arith, length-rebuilt (templateOf t) v))))
         (b .size) (b .front)
 
 -- the template with the Context ID, or none
-module _ (plan : Plan) (c : Choice) {r : Found} (k : Chosen plan c r) where
-  pub none-opens : (v : List ℕ) {image : List ℕ} → r ≡ Nothing → Opens (openShort v c) (Refused UnknownContext) image
-  none-opens v e = opens-refused UnknownContext (ap (openShort v) (sym (k .choice) ∙ ap (choiceAt plan) e))
+module _ (w : List ℕ) (l : Lookup) {r : Found} (k : Listed w l r) where
+  pub none-opens : (v : List ℕ) {image : List ℕ} → r ≡ Nothing → Opens (openShort v l) (Refused UnknownContext) image
+  none-opens v e = opens-refused UnknownContext (ap (openShort v) (sym (k .lookup) ∙ ap (lookupAt w) e))
 
   module _ (i : ℕ) (e : r ≡ At i) where
-    pub found-below : i < plan .count
+    pub found-below : i < countIn w
     found-below = rw e at (k .within)
 
-    pub found-few : Usable plan → i < maxTemplates
+    pub found-few : Usable w → i < maxTemplates
     found-few u = omega (arith, found-below, u .few)
 
-    pub found-usable : Usable plan → UsableTemplate (templateAt plan i)
-    found-usable u = u .all i found-below
+    -- t is its words, as they are cut out
+    module _ {t : List ℕ} (q : t ≡ wordsAt w i) where
+      pub found-usable : Usable w → UsableTemplate t
+      found-usable u = rw q (u .all i found-below)
 
-    pub found-choice : c ≡ short (shapeOf (templateAt plan i))
-    found-choice = sym (k .choice) ∙ ap (choiceAt plan) e
+      pub found-listed : l ≡ listed (templateOf t)
+      found-listed = rw q (sym (k .lookup) ∙ ap (lookupAt w) e)
 
 -- ---- the Context ID
 
-module _ (ts : List Shape) (d : List ℕ) (id n : ℕ) (e : readNumber d ≡ Whole id n) where
+module _ (ts : List Template) (d : List ℕ) (id n : ℕ) (e : readNumber d ≡ Whole id n) where
   pub opened-zero : id ≡ 0 → opened ts d ≡ withinLimit (take (length d - n) (drop n d))
   unfolding opened
   opened-zero f = rw (tail n d, e, eq-eqb id 0 f)

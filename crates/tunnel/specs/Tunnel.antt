@@ -1,84 +1,76 @@
 -- What sending and receiving answer, and what they leave in the lent output.
-use Prim.Native.Nat.{ℕ}
-use mathlib.Core.Bool.{Bool, not, _&&_}
+use Prim.Native.Nat.{ℕ, _+_}
+use mathlib.Core.Bool.{not}
 use mathlib.Core.List.{List, [], _∷_}
 use lib.Dec.{ltb}
 use lib.ListN.{length}
 use Rattle.answer.specs.declared.Refusal.the-variants.{BrokenState, BadForm, HopLimit, NotGranted, PacketTooLong, NoRoom}
+use Rattle.answer.specs.declared.Answer.{Answer}
 use Rattle.answer.specs.declared.Verdict.{Verdict}
-use Rattle.answer.specs.declared.Verdict.the-variants.{Go, Stop}
-use Rattle.answer.specs.Verdict.{Test, _⇒_, firstOf, _then_}
+use Rattle.answer.specs.declared.Verdict.the-variants.{Stop}
+use Rattle.answer.specs.Verdict.{Test, _⇒_, firstOf, _then_, Writes}
+use Rattle.varint.specs.Numbers.{room}
 use Rattle.inet.specs.Packet.{form, hopsOf, lowered}
-use Rattle.grant.specs.declared.Grants.{Grants}
-use Rattle.grant.specs.State.{soundGrants, sendingGranted, receivingGranted}
-use Rattle.plan.specs.declared.Plan.{Plan}
-use Rattle.plan.specs.Shapes.{shapesOf}
-use Rattle.plan.specs.Rules.{soundPlan}
+use Rattle.state.specs.State.{State, soundState, sendingGranted, receivingGranted, stateIn}
 use Rattle.template.specs.Datagrams.{maxPacket, datagram, Opened, refused, packet, opened}
 
--- the least outputs that are sent to and received into
+-- the least outputs that are sent to and received into: a Context ID and a packet; a packet
 abbrev pub sendRoom : ℕ
-sendRoom = 1508
+sendRoom = room + maxPacket
 
 abbrev pub receiveRoom : ℕ
-receiveRoom = 1500
-
--- four lists in words as grants
-abbrev pub grantsOf : List ℕ → List ℕ → List ℕ → List ℕ → Grants
-grantsOf a b c d =
-    record {
-      «received_addresses» = record { words = a };
-      «received_routes» = record { words = b };
-      «given_addresses» = record { words = c };
-      «given_routes» = record { words = d };
-    }
-
--- what is handed in keeps its own rules
-abbrev pub soundState : Grants → Plan → Bool
-soundState g plan = soundGrants g && soundPlan plan
+receiveRoom = maxPacket
 
 -- ---- sending
 
 -- the reasons not to send the packet p to an output of n bytes: the first that holds counts
-unfoldable pub sendTests : Grants → Plan → List ℕ → ℕ → List Test
-sendTests g plan p n =
+unfoldable pub sendTests : State → List ℕ → ℕ → List Test
+sendTests s p n =
     (ltb n sendRoom ⇒ NoRoom)
-    ∷ (not (soundState g plan) ⇒ BrokenState)
+    ∷ (not (soundState s) ⇒ BrokenState)
     ∷ (ltb maxPacket (length p) ⇒ PacketTooLong)
     ∷ (not (form p) ⇒ BadForm)
     ∷ (ltb (hopsOf p) 2 ⇒ HopLimit)
-    ∷ (not (sendingGranted g p) ⇒ NotGranted)
+    ∷ (not (sendingGranted s p) ⇒ NotGranted)
     ∷ []
 
-unfoldable pub sendVerdict : Grants → Plan → List ℕ → ℕ → Verdict
-sendVerdict g plan p n = firstOf (sendTests g plan p n)
+unfoldable pub sendVerdict : State → List ℕ → ℕ → Verdict
+sendVerdict s p n = firstOf (sendTests s p n)
 
 -- what is sent: the datagram of the packet with its hop count lowered
-unfoldable pub sentBytes : Plan → List ℕ → List ℕ
-sentBytes plan p = datagram (shapesOf plan) (lowered p)
+unfoldable pub sentBytes : State → List ℕ → List ℕ
+sentBytes s p = datagram (s .templates) (lowered p)
 
 -- ---- receiving
 
 -- the reasons to look no further at a datagram
-unfoldable pub receiveTests : Grants → Plan → ℕ → List Test
-receiveTests g plan n = (ltb n receiveRoom ⇒ NoRoom) ∷ (not (soundState g plan) ⇒ BrokenState) ∷ []
+unfoldable pub receiveTests : State → ℕ → List Test
+receiveTests s n = (ltb n receiveRoom ⇒ NoRoom) ∷ (not (soundState s) ⇒ BrokenState) ∷ []
 
 -- the reasons not to take in the packet q
-unfoldable pub packetTests : Grants → List ℕ → List Test
-packetTests g q = (not (form q) ⇒ BadForm) ∷ (not (receivingGranted g q) ⇒ NotGranted) ∷ []
+unfoldable pub packetTests : State → List ℕ → List Test
+packetTests s q = (not (form q) ⇒ BadForm) ∷ (not (receivingGranted s q) ⇒ NotGranted) ∷ []
 
 -- the packet that a datagram stands for is judged, or the datagram is refused
-abbrev pub openedVerdict : Grants → Opened → Verdict
-openedVerdict g (refused r) = Stop r
-openedVerdict g (packet q) = firstOf (packetTests g q)
+abbrev pub openedVerdict : State → Opened → Verdict
+openedVerdict s (refused r) = Stop r
+openedVerdict s (packet q) = firstOf (packetTests s q)
 
 abbrev pub openedBytes : Opened → List ℕ
 openedBytes (refused r) = []
 openedBytes (packet q) = q
 
-unfoldable pub receiveVerdict : Grants → Plan → List ℕ → ℕ → Verdict
-receiveVerdict g plan d n = firstOf (receiveTests g plan n) then openedVerdict g (opened (shapesOf plan) d)
+unfoldable pub receiveVerdict : State → List ℕ → ℕ → Verdict
+receiveVerdict s d n = firstOf (receiveTests s n) then openedVerdict s (opened (s .templates) d)
 
 -- what is received: the packet that the datagram stands for
-unfoldable pub receivedBytes : Plan → List ℕ → List ℕ
-receivedBytes plan d = openedBytes (opened (shapesOf plan) d)
+unfoldable pub receivedBytes : State → List ℕ → List ℕ
+receivedBytes s d = openedBytes (opened (s .templates) d)
+
+-- ---- what the entry points promise; w are the words of the state
+
+pub record Sends (w p before : List ℕ) (r : Answer) (after : List ℕ) : Type 0 where
+  pub writes : Writes (sendVerdict (stateIn w) p (length before)) (sentBytes (stateIn w) p) before r after
+
+pub record Receives (w d before : List ℕ) (r : Answer) (after : List ℕ) : Type 0 where
+  pub writes : Writes (receiveVerdict (stateIn w) d (length before)) (receivedBytes (stateIn w) d) before r after

@@ -6,11 +6,11 @@ mod sending; // sending.rt: from a packet to a datagram
 mod receiving; // receiving.rt: from a datagram to a packet
 
 pub use receiving::receive;
-pub use receiving::receive_over;
 pub use sending::send;
-pub use sending::send_over;
+use template::MAX_PACKET;
+use varint::ROOM;
 
-// The least outputs that are sent to and received into.
-pub const SEND_ROOM: usize = 1508;
+// The least outputs that are sent to and received into: a Context ID and a packet; a packet.
+pub const SEND_ROOM: usize = ROOM + MAX_PACKET;
 
-pub const RECEIVE_ROOM: usize = 1500;
+pub const RECEIVE_ROOM: usize = MAX_PACKET;

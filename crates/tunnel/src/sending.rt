@@ -3,111 +3,61 @@ use super::SEND_ROOM;
 use answer::Answer;
 use answer::Refusal;
 use answer::Verdict;
-use grant::Grants;
 use inet::lower::lower_into;
 use inet::packet::form;
 use inet::packet::hops;
-use lent_plan::PLAN_WORDS;
-use lent_plan::head_at;
-use lent_plan::lent_sound;
-use lists::ADDRESS_WORDS;
-use lists::ROUTE_WORDS;
+use output::put_byte;
+use output::put_bytes;
+use state::GIVEN_AT;
+use state::RECEIVED_AT;
+use state::STATE_WORDS;
+use state::TABLE_AT;
+use state::state_sound;
+use table::TEMPLATE_WORDS;
+use table::head_of;
 use template::Found;
 use template::MAX_PACKET;
 use template::body::shorten;
 use template::checksum::put_seed;
 use template::search::find;
+use varint::put_number;
 ghost use mathlib.Core.Path.{_≡_};
-ghost use Prim.Native.Nat.{_+_, _≤_, _<_};
+ghost use Prim.Native.Nat.{_+_, _≤_};
 ghost use lib.ListN.{length};
-ghost use Rattle.answer.specs.Verdict.{Writes};
-ghost use Rattle.varint.specs.Numbers.{limit, room, encode};
 ghost use Rattle.inet.specs.Packet.{lowered};
-ghost use Rattle.plan.specs.Rules.{maxTemplates};
-ghost use Rattle.plan.specs.Shapes.{shapeOf, shapesOf, templateAt};
-ghost use Rattle.lent_plan.specs.Lent.{lentPlan};
+ghost use Rattle.output.specs.Places.{Put};
+ghost use Rattle.table.specs.Words.{templateWords, tableWords, templateOf, templatesOf};
+ghost use Rattle.state.specs.State.{stateWords, stateIn};
 ghost use Rattle.template.specs.Datagrams.{shortForm, fullForm, datagram};
-ghost use Rattle.template.specs.Usable.{Wrote};
-ghost use Rattle.tunnel.specs.Tunnel.{grantsOf, sendVerdict, sentBytes};
+ghost use Rattle.tunnel.specs.Tunnel.{sendVerdict, Sends};
 ghost use Rattle.tunnel.specs.Sending.{Sendable, Puttable, Shortable};
 
 // Sends a packet: the datagram goes to the front of out.
-pub fn send<'a>(
-    grants: Grants,
-    plan: &'a [u64; PLAN_WORDS],
-    packet: &'a [u8],
-    out: &mut [u8],
-) -> Answer
-    ensures { λ r. ⌜ Writes (sendVerdict grants (lentPlan (now (plan .entry))) (now (packet .entry)) (length (now (out .entry)))) (sentBytes (lentPlan (now (plan .entry))) (now (packet .entry))) (now (out .entry)) r (now (out .exit)) ⌝ }
-{
-    let received_addresses = grants.received_addresses;
-    let received_routes = grants.received_routes;
-    let given_addresses = grants.given_addresses;
-    let given_routes = grants.given_routes;
-    let a = received_addresses.words;
-    let b = received_routes.words;
-    let c = given_addresses.words;
-    let d = given_routes.words;
-    send_over(&a, &b, &c, &d, plan, packet, out)
-}
-
-// The same with the four lists lent as words too, so that no packet pays for a copy.
-pub fn send_over<'a>(
-    received_addresses: &'a [u64; ADDRESS_WORDS],
-    received_routes: &'a [u64; ROUTE_WORDS],
-    given_addresses: &'a [u64; ADDRESS_WORDS],
-    given_routes: &'a [u64; ROUTE_WORDS],
-    plan: &'a [u64; PLAN_WORDS],
-    packet: &'a [u8],
-    out: &mut [u8],
-) -> Answer
-    ensures { λ r. ⌜ Writes (sendVerdict (grantsOf (now («received_addresses» .entry)) (now («received_routes» .entry)) (now («given_addresses» .entry)) (now («given_routes» .entry))) (lentPlan (now (plan .entry))) (now (packet .entry)) (length (now (out .entry)))) (sentBytes (lentPlan (now (plan .entry))) (now (packet .entry))) (now (out .entry)) r (now (out .exit)) ⌝ }
+pub fn send(state: &[u64; STATE_WORDS], packet: &[u8], out: &mut [u8]) -> Answer
+    ensures { λ r. ⌜ Sends (now (state .entry)) (now (packet .entry)) (now (out .entry)) r (now (out .exit)) ⌝ }
 {
     let room = out.len();
-    let v = send_verdict(
-        received_addresses,
-        received_routes,
-        given_addresses,
-        given_routes,
-        plan,
-        packet,
-        room,
-    );
+    let v = send_verdict(state, packet, room);
     match v {
         Verdict::Stop(why) => Answer::Refused(why),
         Verdict::Go => {
             let mut image = [0u8; MAX_PACKET];
-            let n = put_datagram(plan, packet, &mut image, out);
+            let words = &state[..];
+            let n = put_datagram(&words[TABLE_AT..STATE_WORDS], packet, &mut image, out);
             Answer::Done(n)
         }
     }
 }
 
 // The first reason not to send, or `Go`.
-fn send_verdict<'a>(
-    received_addresses: &'a [u64; ADDRESS_WORDS],
-    received_routes: &'a [u64; ROUTE_WORDS],
-    given_addresses: &'a [u64; ADDRESS_WORDS],
-    given_routes: &'a [u64; ROUTE_WORDS],
-    plan: &'a [u64; PLAN_WORDS],
-    packet: &'a [u8],
-    room: usize,
-) -> Verdict
-    ensures { λ r. ⌜ r ≡ sendVerdict (grantsOf (now («received_addresses» .entry)) (now («received_routes» .entry)) (now («given_addresses» .entry)) (now («given_routes» .entry))) (lentPlan (now (plan .entry))) (now (packet .entry)) room ⌝ }
+fn send_verdict(state: &[u64], packet: &[u8], room: usize) -> Verdict
+    requires { ⌜ stateWords ≤ length (now state) ⌝ }
+    ensures { λ r. ⌜ r ≡ sendVerdict (stateIn (now (state .entry))) (now (packet .entry)) room ⌝ }
 {
     if room < SEND_ROOM {
         return Verdict::Stop(Refusal::NoRoom);
     }
-    let lists_sound = verdict::all_sound(
-        received_addresses,
-        received_routes,
-        given_addresses,
-        given_routes,
-    );
-    if !lists_sound {
-        return Verdict::Stop(Refusal::BrokenState);
-    }
-    if !lent_sound(plan) {
+    if !state_sound(state) {
         return Verdict::Stop(Refusal::BrokenState);
     }
     if MAX_PACKET < packet.len() {
@@ -119,71 +69,63 @@ fn send_verdict<'a>(
     if hops(packet) < 2 {
         return Verdict::Stop(Refusal::HopLimit);
     }
-    let flow = verdict::flow_of(packet);
-    let passes = verdict::passes(
-        received_addresses,
-        received_routes,
-        given_addresses,
-        given_routes,
-        flow,
-    );
-    if !passes {
+    let flow = policy::flow_of(packet);
+    let received = &state[RECEIVED_AT..GIVEN_AT];
+    let given = &state[GIVEN_AT..TABLE_AT];
+    if !policy::passes(received, given, flow) {
         return Verdict::Stop(Refusal::NotGranted);
     }
     Verdict::Go
 }
 
 // Lowers the packet in the image, and writes the datagram of what it is then.
-fn put_datagram(plan: &[u64; PLAN_WORDS], packet: &[u8], image: &mut [u8], out: &mut [u8]) -> usize
-    requires { ⌜ Sendable (lentPlan (now plan)) (now packet) (now image) (now out) ⌝ }
-    ensures { λ r. ⌜ Wrote (datagram (shapesOf (lentPlan (now (plan .entry)))) (lowered (now (packet .entry)))) 0 (now (out .entry)) (now (out .exit)) r ⌝ }
+fn put_datagram(table: &[u64], packet: &[u8], image: &mut [u8], out: &mut [u8]) -> usize
+    requires { ⌜ tableWords ≤ length (now table) ⌝ }
+    requires { ⌜ Sendable (now table) (now packet) (now image) (now out) ⌝ }
+    ensures { λ r. ⌜ Put (datagram (templatesOf (now (table .entry))) (lowered (now (packet .entry)))) 0 (now (out .entry)) r (now (out .exit)) ⌝ }
 {
     lower_into(packet, image);
     let n = packet.len();
-    put_lowered(plan, &mut image[..n], out)
+    put_lowered(table, &mut image[..n], out)
 }
 
-// Writes the datagram of a packet: short by the first template that fits, else in full. A plan of no templates needs no search.
-fn put_lowered(plan: &[u64; PLAN_WORDS], image: &mut [u8], out: &mut [u8]) -> usize
-    requires { ⌜ Puttable (lentPlan (now plan)) (now image) (now out) ⌝ }
-    ensures { λ r. ⌜ Wrote (datagram (shapesOf (lentPlan (now (plan .entry)))) (now (image .entry))) 0 (now (out .entry)) (now (out .exit)) r ⌝ }
+// Writes the datagram of a packet: short by the first template that fits, else in full. A table of no templates needs no search.
+fn put_lowered(table: &[u64], image: &mut [u8], out: &mut [u8]) -> usize
+    requires { ⌜ tableWords ≤ length (now table) ⌝ }
+    requires { ⌜ Puttable (now table) (now image) (now out) ⌝ }
+    ensures { λ r. ⌜ Put (datagram (templatesOf (now (table .entry))) (now (image .entry))) 0 (now (out .entry)) r (now (out .exit)) ⌝ }
 {
-    if plan[0] == 0 {
+    if table[0] == 0 {
         return put_full(image, out);
     }
-    let found = find(plan, image);
+    let found = find(table, image);
     match found {
         Found::Nothing => put_full(image, out),
-        Found::At(i) => put_short(plan, i, image, out),
+        Found::At(i) => {
+            let from = 1 + i * TEMPLATE_WORDS;
+            let end = from + TEMPLATE_WORDS;
+            put_short(&table[from..end], image, out)
+        }
     }
 }
 
 // The full form: 0, then the packet.
 fn put_full(image: &[u8], out: &mut [u8]) -> usize
     requires { ⌜ 1 + length (now image) ≤ length (now out) ⌝ }
-    ensures { λ r. ⌜ Wrote (fullForm (now (image .entry))) 0 (now (out .entry)) (now (out .exit)) r ⌝ }
+    ensures { λ r. ⌜ Put (fullForm (now (image .entry))) 0 (now (out .entry)) r (now (out .exit)) ⌝ }
 {
-    out[0] = 0;
-    let n = bytes::copy(image, &mut out[1..]);
-    1 + n
+    let at = put_byte(out, 0, 0);
+    put_bytes(out, at, image)
 }
 
-// The short form by template i: the Context ID, then the bytes outside all segments with the seed in the field.
-fn put_short(plan: &[u64; PLAN_WORDS], i: usize, image: &mut [u8], out: &mut [u8]) -> usize
-    requires { ⌜ i < maxTemplates ⌝ }
-    requires { ⌜ Shortable (templateAt (lentPlan (now plan)) i) (now image) (now out) ⌝ }
-    ensures { λ r. ⌜ Wrote (shortForm (shapeOf (templateAt (lentPlan (now (plan .entry))) i)) (now (image .entry))) 0 (now (out .entry)) (now (out .exit)) r ⌝ }
+// The short form by a template: the Context ID, then the bytes outside all segments with the seed in the field.
+fn put_short(t: &[u64], image: &mut [u8], out: &mut [u8]) -> usize
+    requires { ⌜ templateWords ≤ length (now t) ⌝ }
+    requires { ⌜ Shortable (now t) (now image) (now out) ⌝ }
+    ensures { λ r. ⌜ Put (shortForm (templateOf (now (t .entry))) (now (image .entry))) 0 (now (out .entry)) r (now (out .exit)) ⌝ }
 {
-    let id = head_at(plan, i).id;
-    let at = put_id(id.0, out);
-    put_seed(plan, i, image);
-    shorten(plan, i, image, out, at)
-}
-
-fn put_id(id: u64, out: &mut [u8]) -> usize
-    requires { ⌜ (id < limit) × (room ≤ length (now out)) ⌝ }
-    ensures { λ r. ⌜ Wrote (encode id) 0 (now (out .entry)) (now (out .exit)) r ⌝ }
-{
-    let r = varint::write(id, out);
-    r.length()
+    let id = head_of(t).id;
+    let at = put_number(out, 0, id.0);
+    put_seed(t, image);
+    shorten(t, image, out, at)
 }

@@ -1,24 +1,23 @@
 -- The last segment's end is the end of the pieces: `last-end`. Assumes nothing.
-use Prim.Native.Nat.{_-_}
+use Prim.Native.Nat.{ℕ, _-_}
 use mathlib.Core.Path.{_≡_, ap}
+use mathlib.Core.List.{List}
 use native.Mathlib.Omega.{arith}
-use Rattle.plan.specs.declared.Template.{Template}
-use Rattle.plan.specs.Shapes.{templateAt}
-use Rattle.lent_plan.specs.declared.Head.{Head}
-use Rattle.lent_plan.specs.Lent.{lentPlan}
+use Rattle.table.specs.declared.Head.{Head}
+use Rattle.table.specs.Words.{headOf}
 use Rattle.template.proofs.Sizes.{last-end, last-none, segment-within}
 use borrow.Author.Needs.{needs}
 use Rattle.template.proofs.body.last_end.Statement.{statement}
 use Rattle.template.proofs.body.last_end.Tie as tie
 
-abbrev The : tie.After-head-at → Template
-The c = templateAt (lentPlan (c .before .args .words .now)) (c .before .args .i)
+abbrev The : tie.After-head-of → List ℕ
+The c = c .before .before .args .t .now
 
-counted : (c : tie.After-head-at) → c .head-at .result .count ≡ The c .count
-counted c = ap (λ (h : Head). h .count) (c .head-at .ensures)
+counted : (c : tie.After-head-of) → c .head-of .result .count ≡ headOf (The c) .count
+counted c = ap (λ (h : Head). h .count) (c .head-of .ensures)
 
-head-at-requires : tie.Need-head-at-requires
-head-at-requires c κs = search needs
+head-of-requires : tie.Need-head-of-requires
+head-of-requires c κs = search needs
 
 returns : tie.Need-returns
 returns c = last-none (The (c .before)) (counted (c .before)) (c .if1 .taken)
@@ -27,13 +26,13 @@ sub-segment-at : tie.Need-sub-segment-at
 sub-segment-at c = search needs
 
 segment-at-requires : tie.Need-segment-at-requires
-segment-at-requires c κs = let a = c .before in (a .before .pre .0, omega (arith, counted a, a .before .pre .1 .few))
+segment-at-requires c κs = let a = c .before in (a .before .before .pre .0, omega (arith, counted a, a .before .before .pre .1 .few))
 
 add-result : tie.Need-add-result
 add-result c =
     let a = c .before .before .before in
-    let n = a .head-at .result .count in
-    omega (arith, segment-within (The a) (a .before .pre .1) (n - 1) (omega (arith, counted a)) (c .before .segment-at .ensures))
+    let n = a .head-of .result .count in
+    omega (arith, segment-within (The a) (a .before .before .pre .1) (n - 1) (omega (arith, counted a)) (c .before .segment-at .ensures))
 
 returns-2 : tie.Need-returns-2
 returns-2 c = let a = c .before .before .before in last-end (The a) (counted a) (omega arith) (c .before .segment-at .ensures)
@@ -41,4 +40,4 @@ returns-2 c = let a = c .before .before .before in last-end (The a) (counted a) 
 pub last-end-spec : {M : Type 1} → statement M
 last-end-spec =
     tie.close
-    (tie.spec head-at-requires returns sub-segment-at segment-at-requires add-result returns-2)
+    (tie.spec head-of-requires returns sub-segment-at segment-at-requires add-result returns-2)

@@ -1,18 +1,16 @@
 -- The last segment's end decides first, and then the field's end. Assumes nothing.
-use Prim.Native.Nat.{_+_}
+use Prim.Native.Nat.{ℕ, _+_}
 use mathlib.Core.Path.{ap, sym, _∙_}
+use mathlib.Core.List.{List}
 use native.Mathlib.Omega.{arith}
 use lib.Dec.{leb}
-use Rattle.plan.specs.declared.Template.{Template}
-use Rattle.plan.specs.Shapes.{templateAt}
-use Rattle.lent_plan.specs.Lent.{lentPlan}
 use Rattle.template.proofs.Sizes.{field-within, reaches-short, reaches-sum, reaches-plain}
 use borrow.Author.Needs.{needs}
 use Rattle.template.proofs.body.reaches.Statement.{statement}
 use Rattle.template.proofs.body.reaches.Tie as tie
 
-abbrev The : tie.Start → Template
-The c = templateAt (lentPlan (c .args .words .now)) (c .args .i)
+abbrev The : tie.Start → List ℕ
+The c = c .args .t .now
 
 rebuilt-length-requires : tie.Need-rebuilt-length-requires
 rebuilt-length-requires c κs = search needs
@@ -21,21 +19,21 @@ last-end-requires : tie.Need-last-end-requires
 last-end-requires c κs = search needs
 
 returns : tie.Need-returns
-returns c = sym (reaches-short (The (c .before .before .before .before)) (c .before .before .before .before .args .body .now) (omega arith))
+returns c = sym (reaches-short (The (c .before .before .before .before .before)) (c .before .before .before .before .before .args .body .now) (omega arith))
 
-head-at-requires : tie.Need-head-at-requires
-head-at-requires c κs = search needs
+head-of-requires : tie.Need-head-of-requires
+head-of-requires c κs = search needs
 
 add-result : tie.Need-add-result
-add-result c = omega (arith, field-within (The (c .before .before .before .before .before .before .before)) (c .before .before .before .before .before .before .before .pre .1) (c .before .before .head-at .ensures) (c .before .if2 .taken))
+add-result c = omega (arith, field-within (The (c .before .before .before .before .before .before .before .before)) (c .before .before .before .before .before .before .before .before .pre .1) (c .before .before .head-of .ensures) (c .before .if2 .taken))
 
 returns-2 : tie.Need-returns-2
 returns-2 c =
-    ap (leb (c .before .before .head-at .result .field + 2)) (c .before .before .before .before .before .rebuilt-length .ensures)
-    ∙ sym (reaches-sum (The (c .before .before .before .before .before .before .before)) (c .before .before .before .before .before .before .before .args .body .now) (c .before .before .head-at .ensures) (omega arith) (c .before .if2 .taken))
+    ap (leb (c .before .before .head-of .result .field + 2)) (c .before .before .before .before .before .rebuilt-length .ensures)
+    ∙ sym (reaches-sum (The (c .before .before .before .before .before .before .before .before)) (c .before .before .before .before .before .before .before .before .args .body .now) (c .before .before .head-of .ensures) (omega arith) (c .before .if2 .taken))
 
 returns-3 : tie.Need-returns-3
-returns-3 c = sym (reaches-plain (The (c .before .before .before .before .before .before)) (c .before .before .before .before .before .before .args .body .now) (c .before .head-at .ensures) (omega arith) (c .if2 .left))
+returns-3 c = sym (reaches-plain (The (c .before .before .before .before .before .before .before)) (c .before .before .before .before .before .before .before .args .body .now) (c .before .head-of .ensures) (omega arith) (c .if2 .left))
 
 pub reaches-spec : {M : Type 1} → statement M
 reaches-spec =
@@ -44,7 +42,7 @@ reaches-spec =
     rebuilt-length-requires
     last-end-requires
     returns
-    head-at-requires
+    head-of-requires
     add-result
     returns-2
     returns-3)

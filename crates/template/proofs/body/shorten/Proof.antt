@@ -1,63 +1,62 @@
 -- The invariant is `Shortening`. Assumes nothing.
-use Prim.Native.Nat.{_+_, _-_, _≤_, _<_}
+use Prim.Native.Nat.{ℕ, _+_, _-_, _≤_, _<_}
 use mathlib.Core.Path.{_≡_, ap, _∙_}
+use mathlib.Core.List.{List}
 use native.Mathlib.Omega.{arith}
 use lib.ListN.{length}
-use Rattle.plan.specs.declared.Template.{Template}
-use Rattle.plan.specs.Shapes.{templateAt}
-use Rattle.lent_plan.specs.declared.Head.{Head}
-use Rattle.lent_plan.specs.Lent.{lentPlan}
+use Rattle.table.specs.declared.Head.{Head}
+use Rattle.table.specs.Words.{headOf}
 use Rattle.template.specs.Usable.{Shortenable}
 use Rattle.template.proofs.Sizes.{segment-within}
-use Rattle.template.proofs.Shortening.{Shortening, shortening-none, next-up, next-inside, shortening-more, shortening-done}
+use Rattle.template.proofs.Shortening.{Shortening, shortening-none, next-up, next-inside, shortening-same, shortening-more, shortening-done}
 use borrow.Author.Needs.{needs}
 use Rattle.template.proofs.body.shorten.Statement.{statement}
 use Rattle.template.proofs.body.shorten.Tie as tie
 
 abbrev Inv-loop : tie.InvT-loop
-Inv-loop words i image out₀ at n pos₀ next₀ j₀ out pos next j = Shortening (templateAt (lentPlan words) i) image out₀ at out pos next j
+Inv-loop t image out₀ at n pos₀ next₀ j₀ out pos next j = Shortening t image out₀ at out pos next j
 
 abbrev μ-loop : tie.MeasureT-loop
-μ-loop words i image out₀ at n pos₀ next₀ j₀ out pos next j = n - j
+μ-loop t image out₀ at n pos₀ next₀ j₀ out pos next j = n - j
 
 abbrev Known : Type 0
-Known = tie.After-head-at Inv-loop μ-loop
+Known = tie.After-head-of Inv-loop μ-loop
 
 abbrev AtSegment : Type 0
 AtSegment = tie.After-segment-at Inv-loop μ-loop
 
-abbrev The : Known → Template
-The c = templateAt (lentPlan (c .before .before .before .args .words .now)) (c .before .before .before .args .i)
+abbrev The : Known → List ℕ
+The c = c .before .before .before .before .args .t .now
 
-counted : (c : Known) → c .head-at .result .count ≡ The c .count
-counted c = ap (λ (h : Head). h .count) (c .head-at .ensures)
+counted : (c : Known) → c .head-of .result .count ≡ headOf (The c) .count
+counted c = ap (λ (h : Head). h .count) (c .head-of .ensures)
 
-Ready : (c : Known) → Shortenable (The c) (c .before .before .before .args .image .now) (c .before .before .before .args .out .now) (c .before .before .before .args .at)
-Ready c = c .before .before .before .pre .1
+Ready : (c : Known) → Shortenable (The c) (c .before .before .before .before .args .image .now) (c .before .before .before .before .args .out .now) (c .before .before .before .before .args .at)
+Ready c = c .before .before .before .before .pre .1
 
 -- what holds of the segment at j
-turn : (c : AtSegment) → c .before .before .loop .j < The (c .before .before .before) .count
+turn : (c : AtSegment) → c .before .before .loop .j < headOf (The (c .before .before .before)) .count
 turn c = omega (arith, counted (c .before .before .before), c .before .loop-test .taken)
 
 upward : (c : AtSegment) → c .before .before .loop .pos ≤ c .segment-at .result .offset
 upward c = next-up _ _ _ _ (Ready (c .before .before .before)) (c .before .before .loop .inv) (turn c) (c .segment-at .ensures)
 
-inward : (c : AtSegment) → c .segment-at .result .offset + c .segment-at .result .length ≤ length (c .before .before .before .before .before .before .args .image .now)
+inward : (c : AtSegment) → c .segment-at .result .offset + c .segment-at .result .length ≤ length (c .before .before .before .before .before .before .before .args .image .now)
 inward c = next-inside _ _ _ _ (Ready (c .before .before .before)) (c .before .before .loop .inv) (turn c) (c .segment-at .ensures)
 
-head-at-requires : tie.Need-head-at-requires Inv-loop μ-loop
-head-at-requires c κs = search needs
+head-of-requires : tie.Need-head-of-requires Inv-loop μ-loop
+head-of-requires c κs = search needs
 
 loop-holds : tie.Need-loop-holds Inv-loop μ-loop
 loop-holds c = shortening-none _ _ _ _ (Ready c)
 
 segment-at-requires : tie.Need-segment-at-requires Inv-loop μ-loop
-segment-at-requires c κs = (c .before .before .before .before .before .pre .0, omega (arith, counted (c .before .before), Ready (c .before .before) .usable .few))
+segment-at-requires c κs = (c .before .before .before .before .before .before .pre .0, omega (arith, counted (c .before .before), Ready (c .before .before) .usable .few))
 
 copy-range-requires : tie.Need-copy-range-requires Inv-loop μ-loop
 copy-range-requires c κs =
     let a : AtSegment = c .before in
-    (upward a, omega (arith, inward a), omega (arith, upward a, inward a, a .before .before .loop .inv .behind, a .before .before .loop .inv .same, Ready (a .before .before .before) .room))
+    (upward a, omega (arith, inward a), omega (arith, upward a, inward a, a .before .before .loop .inv .behind, shortening-same _ _ _ _ (Ready (a .before .before .before)) (a .before .before .loop .inv), Ready (a .before .before .before) .room))
 
 add-pos : tie.Need-add-pos Inv-loop μ-loop
 add-pos c = let a : AtSegment = c .before .before .before .before .before in omega (arith, segment-within _ (Ready (a .before .before .before) .usable) _ (turn a) (a .segment-at .ensures))
@@ -71,16 +70,16 @@ loop-less c = omega arith
 loop-again : tie.Need-loop-again Inv-loop μ-loop
 loop-again c =
     let a : AtSegment = c .before .before .before .before .before in
-    shortening-more _ _ _ _ (Ready (a .before .before .before)) (a .before .before .loop .inv) (turn a) (a .segment-at .ensures) (c .before .before .before .copy-range .ensures) (c .before .before .before .copy-range .kept .1 .1 .1 .0)
+    shortening-more _ _ _ _ (Ready (a .before .before .before)) (a .before .before .loop .inv) (turn a) (a .segment-at .ensures) (c .before .before .before .copy-range .ensures)
 
 copy-range-requires-2 : tie.Need-copy-range-requires-2 Inv-loop μ-loop
-copy-range-requires-2 c κs = omega (arith, c .before .before .loop .inv .behind, c .before .before .loop .inv .inside, c .before .before .loop .inv .same, Ready (c .before .before .before) .room)
+copy-range-requires-2 c κs = omega (arith, c .before .before .loop .inv .behind, c .before .before .loop .inv .inside, shortening-same _ _ _ _ (Ready (c .before .before .before)) (c .before .before .loop .inv), Ready (c .before .before .before) .room)
 
 same-length : tie.Need-same-length Inv-loop μ-loop
-same-length c = c .before .before .copy-range2 .kept .1 .1 .1 .0 ∙ c .before .before .before .before .before .loop .inv .same
+same-length c = c .before .before .copy-range2 .kept .1 .1 .1 .0 ∙ shortening-same _ _ _ _ (Ready (c .before .before .before .before .before .before)) (c .before .before .before .before .before .loop .inv)
 
 returns : tie.Need-returns Inv-loop μ-loop
-returns c = shortening-done _ _ _ _ (Ready (c .before .before .before .before .before .before)) (c .before .before .before .before .before .loop .inv) (omega (arith, counted (c .before .before .before .before .before .before), c .before .before .before .before .loop-test .left)) (c .before .before .copy-range2 .ensures) (c .before .before .copy-range2 .kept .1 .1 .1 .0)
+returns c = shortening-done _ _ _ _ (Ready (c .before .before .before .before .before .before)) (c .before .before .before .before .before .loop .inv) (omega (arith, counted (c .before .before .before .before .before .before), c .before .before .before .before .loop-test .left)) (c .before .before .copy-range2 .ensures)
 
 pub shorten-spec : {M : Type 1} → statement M
 shorten-spec =
@@ -88,7 +87,7 @@ shorten-spec =
     (tie.spec
     Inv-loop
     μ-loop
-    head-at-requires
+    head-of-requires
     loop-holds
     segment-at-requires
     copy-range-requires

@@ -1,12 +1,11 @@
 -- The invariant is `Weaving`. Assumes nothing.
-use Prim.Native.Nat.{_+_, _-_, _≤_, _<_}
+use Prim.Native.Nat.{ℕ, _+_, _-_, _≤_, _<_}
 use mathlib.Core.Path.{_≡_, ap, _∙_}
+use mathlib.Core.List.{List}
 use native.Mathlib.Omega.{arith}
-use Rattle.plan.specs.declared.Template.{Template}
-use Rattle.plan.specs.Rules.{staticLimit}
-use Rattle.plan.specs.Shapes.{templateAt}
-use Rattle.lent_plan.specs.declared.Head.{Head}
-use Rattle.lent_plan.specs.Lent.{lentPlan}
+use Rattle.table.specs.Limits.{staticLimit}
+use Rattle.table.specs.declared.Head.{Head}
+use Rattle.table.specs.Words.{headOf}
 use Rattle.template.specs.Usable.{Weavable}
 use Rattle.template.proofs.Sizes.{segment-within}
 use Rattle.template.proofs.Weaving.{Weaving, Ready, weaving-none, weaving-ready, weaving-more, last-room, weaving-done}
@@ -15,44 +14,44 @@ use Rattle.template.proofs.body.weave_into.Statement.{statement}
 use Rattle.template.proofs.body.weave_into.Tie as tie
 
 abbrev Inv-loop : tie.InvT-loop
-Inv-loop words i body image₀ n pos₀ at₀ j₀ image pos at j = Weaving (templateAt (lentPlan words) i) body image₀ image pos at j
+Inv-loop t body image₀ n pos₀ at₀ j₀ image pos at j = Weaving t body image₀ image pos at j
 
 abbrev μ-loop : tie.MeasureT-loop
-μ-loop words i body image₀ n pos₀ at₀ j₀ image pos at j = n - j
+μ-loop t body image₀ n pos₀ at₀ j₀ image pos at j = n - j
 
 abbrev Known : Type 0
-Known = tie.After-head-at Inv-loop μ-loop
+Known = tie.After-head-of Inv-loop μ-loop
 
 abbrev AtSegment : Type 0
 AtSegment = tie.After-segment-at Inv-loop μ-loop
 
-abbrev The : Known → Template
-The c = templateAt (lentPlan (c .before .before .before .args .words .now)) (c .before .before .before .args .i)
+abbrev The : Known → List ℕ
+The c = c .before .before .before .before .args .t .now
 
-counted : (c : Known) → c .head-at .result .count ≡ The c .count
-counted c = ap (λ (h : Head). h .count) (c .head-at .ensures)
+counted : (c : Known) → c .head-of .result .count ≡ headOf (The c) .count
+counted c = ap (λ (h : Head). h .count) (c .head-of .ensures)
 
-weavable : (c : Known) → Weavable (The c) (c .before .before .before .args .body .now) (c .before .before .before .args .image .now)
-weavable c = c .before .before .before .pre .1
+weavable : (c : Known) → Weavable (The c) (c .before .before .before .before .args .body .now) (c .before .before .before .before .args .image .now)
+weavable c = c .before .before .before .before .pre .1
 
 -- what holds of the segment at j
-turn : (c : AtSegment) → c .before .before .loop .j < The (c .before .before .before) .count
+turn : (c : AtSegment) → c .before .before .loop .j < headOf (The (c .before .before .before)) .count
 turn c = omega (arith, counted (c .before .before .before), c .before .loop-test .taken)
 
-ready : (c : AtSegment) → Ready (The (c .before .before .before)) (c .before .before .before .before .before .before .args .body .now) (c .before .before .before .before .before .before .args .image .now) (weavable (c .before .before .before)) (c .before .before .loop .inv) (c .segment-at .result)
+ready : (c : AtSegment) → Ready (The (c .before .before .before)) (c .before .before .before .before .before .before .before .args .body .now) (c .before .before .before .before .before .before .before .args .image .now) (weavable (c .before .before .before)) (c .before .before .loop .inv) (c .segment-at .result)
 ready c = weaving-ready _ _ _ (weavable (c .before .before .before)) (c .before .before .loop .inv) (turn c) (c .segment-at .ensures)
 
 within : (c : AtSegment) → c .segment-at .result .offset + c .segment-at .result .length ≤ staticLimit
 within c = segment-within _ (weavable (c .before .before .before) .usable) _ (turn c) (c .segment-at .ensures)
 
-head-at-requires : tie.Need-head-at-requires Inv-loop μ-loop
-head-at-requires c κs = search needs
+head-of-requires : tie.Need-head-of-requires Inv-loop μ-loop
+head-of-requires c κs = search needs
 
 loop-holds : tie.Need-loop-holds Inv-loop μ-loop
 loop-holds c = weaving-none _ _ _ (weavable c)
 
 segment-at-requires : tie.Need-segment-at-requires Inv-loop μ-loop
-segment-at-requires c κs = (c .before .before .before .before .before .pre .0, omega (arith, counted (c .before .before), weavable (c .before .before) .usable .few))
+segment-at-requires c κs = (c .before .before .before .before .before .before .pre .0, omega (arith, counted (c .before .before), weavable (c .before .before) .usable .few))
 
 add-end : tie.Need-add-end Inv-loop μ-loop
 add-end c = omega (arith, within (c .before))
@@ -69,7 +68,7 @@ copy-range-requires c κs = let g = ready (c .before .before) in omega (arith, g
 put-static-requires : tie.Need-put-static-requires Inv-loop μ-loop
 put-static-requires c κs =
     let a : AtSegment = c .before .before .before .before .before .before in
-    (a .before .before .before .before .before .before .pre .0, (omega arith, within a, omega (arith, ready a .room, c .before .before .before .copy-range .kept .1 .1 .1 .0)))
+    (a .before .before .before .before .before .before .before .pre .0, (omega arith, within a, omega (arith, ready a .room, c .before .before .before .copy-range .kept .1 .1 .1 .0)))
 
 add-j : tie.Need-add-j Inv-loop μ-loop
 add-j c = let a : AtSegment = c .before .before .before .before .before .before .before .before .before in omega (arith, turn a, weavable (a .before .before .before) .usable .few)
@@ -80,7 +79,7 @@ loop-less c = omega arith
 loop-again : tie.Need-loop-again Inv-loop μ-loop
 loop-again c =
     let a : AtSegment = c .before .before .before .before .before .before .before .before .before in
-    weaving-more _ _ _ (weavable (a .before .before .before)) (a .before .before .loop .inv) (turn a) (a .segment-at .ensures) (c .before .before .before .before .before .before .copy-range .ensures) (c .before .before .before .before .before .before .copy-range .kept .1 .1 .1 .0) (c .before .before .put-static .ensures) (c .before .before .put-static .kept .1 .1 .1 .1 .0)
+    weaving-more _ _ _ (weavable (a .before .before .before)) (a .before .before .loop .inv) (turn a) (a .segment-at .ensures) (c .before .before .before .before .before .before .copy-range .ensures) (c .before .before .put-static .ensures)
 
 copy-range-requires-2 : tie.Need-copy-range-requires-2 Inv-loop μ-loop
 copy-range-requires-2 c κs = omega (arith, c .before .before .loop .inv .inside, last-room _ _ _ (weavable (c .before .before .before)) (c .before .before .loop .inv) (omega (arith, counted (c .before .before .before), c .before .loop-test .left)))
@@ -97,7 +96,7 @@ weave-into-spec =
     (tie.spec
     Inv-loop
     μ-loop
-    head-at-requires
+    head-of-requires
     loop-holds
     segment-at-requires
     add-end

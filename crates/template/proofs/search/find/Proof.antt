@@ -1,71 +1,69 @@
--- What is left to compare gives the answer of each whole comparison: the bytes of a segment, the segments of a template, the templates of the plan.
--- The lent plan stays closed: a head, a segment and a byte are those of its template by the contracts of their accessors. Assumes nothing.
+-- What is left to compare gives the answer of each whole comparison: the bytes of a segment, the segments of a template, the templates of the table.
+-- The table stays closed: a head, a segment and a byte are those of its template by the contracts of their accessors. Assumes nothing.
 use Prim.Native.Nat.{ℕ, _+_, _-_, _≤_, _<_}
 use mathlib.Core.Path.{_≡_, refl, ap, sym, _∙_}
 use mathlib.Core.Bool.{Bool, true, false, _&&_}
 use mathlib.Core.List.{List}
 use native.Mathlib.Omega.{arith}
-use lib.ListN.{drop}
+use lib.ListN.{length, drop}
 use borrow.Author.Tests.{not-true, not-false}
 use borrow.Author.Needs.{needs}
-use Rattle.plan.specs.declared.Segment.{Segment}
-use Rattle.plan.specs.declared.Template.{Template}
-use Rattle.plan.specs.declared.Plan.{Plan}
-use Rattle.plan.specs.Rules.{maxTemplates, maxSegments, staticLimit}
-use Rattle.plan.specs.Shapes.{sumAt, window, segmentAt, templateAt, shapeOf, shapesOf}
-use Rattle.lent_plan.specs.declared.Head.{Head}
-use Rattle.lent_plan.specs.Lent.{headOf, lentPlan}
+use Rattle.table.specs.Limits.{maxTemplates, maxSegments, staticLimit}
+use Rattle.table.specs.Sound.{UsableTemplate}
+use Rattle.table.specs.Templates.{sumAt}
+use Rattle.table.specs.Words.{window, segmentAt, wordsAt, templateOf, templatesOf, headOf, countIn, templateWords}
+use Rattle.table.specs.declared.Head.{Head}
+use Rattle.table.specs.declared.Segment.{Segment}
+use Rattle.table.proofs.Judging.{words-at}
 use Rattle.template.specs.declared.Found.the-variants.{At, Nothing}
 use Rattle.template.specs.Pieces.{begins, fitsPieces}
 use Rattle.template.specs.Fits.{fitsSum, fits, firstFit}
-use Rattle.template.specs.Usable.{UsableTemplate, SumPlace, piecesOf, choiceAt, Chosen}
-use Rattle.template.proofs.Steps.{piecesFrom, pieces-all, fits-short, fits-long, fits-done, begins-same, begins-other, begins-done, unfit-pieces, fit-plain, fit-sum, sum-place, shapesFrom, shapes-all, find-next, find-here, find-done}
+use Rattle.template.specs.Usable.{SumPlace, piecesOf, choiceAt, Chosen}
+use Rattle.template.proofs.Steps.{piecesFrom, pieces-all, fits-short, fits-long, fits-done, begins-same, begins-other, begins-done, unfit-pieces, fit-plain, fit-sum, sum-place, wordsFrom, words-length, templatesFrom, templates-all, find-next, find-here, find-done}
 use Rattle.template.proofs.search.find.Statement.{statement}
 use Rattle.template.proofs.search.find.Tie as tie
 
 -- a head that was read stands for its template
-module _ (t : Template) (h : Head) (e : h ≡ headOf t) where
+module _ (t : List ℕ) (h : Head) (e : h ≡ headOf t) where
   pieces-read : piecesOf t ≡ piecesFrom t 0 (h .count - 0)
   pieces-read = rw e (pieces-all t)
 
   place-read : UsableTemplate t → h .checksum ≡ true → SumPlace (h .field) (h .start)
   place-read u f = rw e (sum-place t (u .sound) (sym (ap (λ (x : Head). x .checksum) e) ∙ f))
 
-  plain-read : (p : List ℕ) → fitsPieces (piecesOf t) p ≡ true → h .checksum ≡ false → fits (shapeOf t) p ≡ true
+  plain-read : (p : List ℕ) → fitsPieces (piecesOf t) p ≡ true → h .checksum ≡ false → fits (templateOf t) p ≡ true
   plain-read p g f = fit-plain t p g (sym (ap (λ (x : Head). x .checksum) e) ∙ f)
 
-  sum-read : (p : List ℕ) (b : Bool) → fitsPieces (piecesOf t) p ≡ true → h .checksum ≡ true → fitsSum (sumAt (h .field) (h .start)) p ≡ b → fits (shapeOf t) p ≡ b
+  sum-read : (p : List ℕ) (b : Bool) → fitsPieces (piecesOf t) p ≡ true → h .checksum ≡ true → fitsSum (sumAt (h .field) (h .start)) p ≡ b → fits (templateOf t) p ≡ b
   sum-read p b g f s = fit-sum t p b g (sym (ap (λ (x : Head). x .checksum) e) ∙ f) (rw e at s)
 
 abbrev Inv-bytes : tie.InvT-bytes
-Inv-bytes words packet count answer next i head n j k₀ end k =
-    let t = templateAt (lentPlan words) i in
-    (k ≤ end) × (fitsPieces (piecesFrom t j (n - j)) packet ≡ (begins (window (t .bytes) k (end - k)) (drop k packet) && fitsPieces (piecesFrom t (j + 1) (n - (j + 1))) packet))
+Inv-bytes table packet count answer next i from end t head n j k₀ stop k =
+    (k ≤ stop) × (fitsPieces (piecesFrom t j (n - j)) packet ≡ (begins (window t k (stop - k)) (drop k packet) && fitsPieces (piecesFrom t (j + 1) (n - (j + 1))) packet))
 
 abbrev μ-bytes : tie.MeasureT-bytes
-μ-bytes words packet count answer next i head n j k₀ end k = end - k
+μ-bytes table packet count answer next i from end t head n j k₀ stop k = stop - k
 
 abbrev Inv-segments : tie.InvT-segments
-Inv-segments words packet count answer next i head n j₀ j =
-    let t = templateAt (lentPlan words) i in
+Inv-segments table packet count answer next i from end t head n j₀ j =
     (j ≤ n) × (fitsPieces (piecesOf t) packet ≡ fitsPieces (piecesFrom t j (n - j)) packet)
 
 abbrev μ-segments : tie.MeasureT-segments
-μ-segments words packet count answer next i head n j₀ j = n - j
+μ-segments table packet count answer next i from end t head n j₀ j = n - j
 
 abbrev Inv-templates : tie.InvT-templates
-Inv-templates words packet count answer₀ next₀ answer next =
-    (answer ≡ Nothing) × (next ≤ count) × (firstFit (shapesOf (lentPlan words)) packet ≡ firstFit (shapesFrom (lentPlan words) next (count - next)) packet)
+Inv-templates table packet count answer₀ next₀ answer next =
+    (answer ≡ Nothing) × (next ≤ count) × (firstFit (templatesOf table) packet ≡ firstFit (templatesFrom table next (count - next)) packet)
 
 abbrev μ-templates : tie.MeasureT-templates
-μ-templates words packet count answer₀ next₀ answer next = count - next
+μ-templates table packet count answer₀ next₀ answer next = count - next
 
 -- the places
 abbrev InTemplates : Type 0
 InTemplates = tie.In-templates Inv-bytes μ-bytes Inv-segments μ-segments Inv-templates μ-templates
 
 abbrev Headed : Type 0
-Headed = tie.After-head-at Inv-bytes μ-bytes Inv-segments μ-segments Inv-templates μ-templates
+Headed = tie.After-head-of Inv-bytes μ-bytes Inv-segments μ-segments Inv-templates μ-templates
 
 abbrev InSegments : Type 0
 InSegments = tie.In-segments Inv-bytes μ-bytes Inv-segments μ-segments Inv-templates μ-templates
@@ -85,61 +83,70 @@ Next c = c .before .templates .next
 abbrev Count : InTemplates → ℕ
 Count c = c .before .before .count-of .result
 
-abbrev The-plan : InTemplates → Plan
-The-plan c = lentPlan (c .before .before .before .before .args .words .now)
+abbrev The-table : InTemplates → List ℕ
+The-table c = c .before .before .before .before .before .args .table .now
 
 abbrev Packet : InTemplates → List ℕ
-Packet c = c .before .before .before .before .args .packet .now
+Packet c = c .before .before .before .before .before .args .packet .now
 
-abbrev The : InTemplates → Template
-The c = templateAt (The-plan c) (Next c)
+abbrev The : InTemplates → List ℕ
+The c = wordsFrom (The-table c) (Next c)
 
 abbrev Seg : Segmented → Segment
 Seg c = c .segment-at .result
 
 -- the template is in use
-in-use : (c : InTemplates) → Next c < The-plan c .count
+in-use : (c : InTemplates) → Next c < countIn (The-table c)
 in-use c = omega (arith, c .before .before .count-of .ensures)
 
 in-range : (c : InTemplates) → Next c < maxTemplates
-in-range c = omega (arith, in-use c, c .before .before .before .before .pre .0 .few)
+in-range c = omega (arith, in-use c, c .before .before .before .before .before .pre .1 .0 .few)
+
+the-words : (c : InTemplates) → The c ≡ wordsAt (The-table c) (Next c)
+the-words c = words-at (The-table c) (Next c)
+
+all-there : (c : InTemplates) → templateWords ≤ length (The c)
+all-there c = words-length (The-table c) (Next c) (c .before .before .before .before .before .pre .0) (in-range c)
 
 ok : (c : InTemplates) → UsableTemplate (The c)
-ok c = c .before .before .before .before .pre .0 .all (Next c) (in-use c)
+ok c = rw (the-words c) (c .before .before .before .before .before .pre .1 .0 .all (Next c) (in-use c))
 
-head-few : (c : Headed) → c .head-at .result .count ≤ maxSegments
-head-few c = rw (c .head-at .ensures) (ok (c .before) .few)
+head-few : (c : Headed) → c .head-of .result .count ≤ maxSegments
+head-few c = rw (c .head-of .ensures) (ok (c .before .before) .few)
 
 -- a segment that was read is the template's
-offset-read : (c : Segmented) → Seg c .offset ≡ segmentAt (The (c .before .before .before .before)) (c .before .before .segments .j) .offset
+offset-read : (c : Segmented) → Seg c .offset ≡ segmentAt (The (c .before .before .before .before .before)) (c .before .before .segments .j) .offset
 offset-read c = ap (λ (s : Segment). s .offset) (c .segment-at .ensures)
 
-length-read : (c : Segmented) → Seg c .length ≡ segmentAt (The (c .before .before .before .before)) (c .before .before .segments .j) .length
+length-read : (c : Segmented) → Seg c .length ≡ segmentAt (The (c .before .before .before .before .before)) (c .before .before .segments .j) .length
 length-read c = ap (λ (s : Segment). s .length) (c .segment-at .ensures)
 
 within : (c : Segmented) → Seg c .offset + Seg c .length ≤ staticLimit
 within c =
     let s : InSegments = c .before in
     let h : Headed = s .before .before in
-    let n : h .head-at .result .count ≡ The (h .before) .count = ap (λ (x : Head). x .count) (h .head-at .ensures) in
-    omega (arith, offset-read c, length-read c, ok (h .before) .within (s .before .segments .j) (omega (arith, s .segments-test .taken, n)))
+    let n : h .head-of .result .count ≡ headOf (The (h .before .before)) .count = ap (λ (x : Head). x .count) (h .head-of .ensures) in
+    omega (arith, offset-read c, length-read c, ok (h .before .before) .within (s .before .segments .j) (omega (arith, s .segments-test .taken, n)))
+
+fit-words : (c : InTemplates) {b : Bool} → fits (templateOf (The c)) (Packet c) ≡ b → fits (templateOf (wordsAt (The-table c) (Next c))) (Packet c) ≡ b
+fit-words c e = ap (λ (l : List ℕ). fits (templateOf l) (Packet c)) (sym (the-words c)) ∙ e
 
 -- after a template that does not fit: the outer invariant again
-passed : (c : InTemplates) → fits (shapeOf (The c)) (Packet c) ≡ false
-    → firstFit (shapesOf (The-plan c)) (Packet c) ≡ firstFit (shapesFrom (The-plan c) (Next c + 1) (Count c - (Next c + 1))) (Packet c)
-passed c e = c .before .templates .inv .2 ∙ find-next (The-plan c) (Packet c) (Next c) _ (c .templates-test .taken) e
+passed : (c : InTemplates) → fits (templateOf (The c)) (Packet c) ≡ false
+    → firstFit (templatesOf (The-table c)) (Packet c) ≡ firstFit (templatesFrom (The-table c) (Next c + 1) (Count c - (Next c + 1))) (Packet c)
+passed c e = c .before .templates .inv .2 ∙ find-next (The-table c) (Packet c) (Next c) _ (c .templates-test .taken) (fit-words c e)
 
 -- all segments are compared
-compared : (c : AfterSegments) → fitsPieces (piecesOf (The (c .before .before .before))) (Packet (c .before .before .before)) ≡ true
+compared : (c : AfterSegments) → fitsPieces (piecesOf (The (c .before .before .before .before))) (Packet (c .before .before .before .before)) ≡ true
 compared c =
-    let b : InTemplates = c .before .before .before in
+    let b : InTemplates = c .before .before .before .before in
     c .before .segments .inv .1 ∙ fits-done (The b) (Packet b) (c .before .segments .j) _ (c .segments-test .left)
 
 -- a template that fits
-found : (c : InTemplates) → fits (shapeOf (The c)) (Packet c) ≡ true → Chosen (The-plan c) (firstFit (shapesOf (The-plan c)) (Packet c)) (At (Next c))
+found : (c : InTemplates) → fits (templateOf (The c)) (Packet c) ≡ true → Chosen (The-table c) (firstFit (templatesOf (The-table c)) (Packet c)) (At (Next c))
 found c e =
     record {
-      choice = sym (c .before .templates .inv .2 ∙ find-here (The-plan c) (Packet c) (Next c) _ (c .templates-test .taken) e);
+      choice = sym (c .before .templates .inv .2 ∙ find-here (The-table c) (Packet c) (Next c) _ (c .templates-test .taken) (fit-words c e));
       within = in-use c;
     }
 
@@ -148,23 +155,44 @@ count-of-requires c κs = search needs
 
 templates-holds : tie.Need-templates-holds Inv-bytes μ-bytes Inv-segments μ-segments Inv-templates μ-templates
 templates-holds c =
-    let a = c .before .before .args in
-    (refl, omega arith, ap (λ l. firstFit l (a .packet .now)) (shapes-all (lentPlan (a .words .now))) ∙ ap (λ (n : ℕ). firstFit (shapesFrom (lentPlan (a .words .now)) 0 (n - 0)) (a .packet .now)) (sym (c .count-of .ensures)))
+    let a = c .before .before .before .args in
+    (refl, omega arith, ap (λ l. firstFit l (a .packet .now)) (templates-all (a .table .now)) ∙ ap (λ (n : ℕ). firstFit (templatesFrom (a .table .now) 0 (n - 0)) (a .packet .now)) (sym (c .count-of .ensures)))
 
 add-next : tie.Need-add-next Inv-bytes μ-bytes Inv-segments μ-segments Inv-templates μ-templates
 add-next c = omega arith
 
-head-at-requires : tie.Need-head-at-requires Inv-bytes μ-bytes Inv-segments μ-segments Inv-templates μ-templates
-head-at-requires c κs = in-range c
+mul-from : tie.Need-mul-from Inv-bytes μ-bytes Inv-segments μ-segments Inv-templates μ-templates
+mul-from c = omega (arith, in-range c)
 
-segments-holds : tie.Need-segments-holds Inv-bytes μ-bytes Inv-segments μ-segments Inv-templates μ-templates
-segments-holds c = (omega arith, ap (λ l. fitsPieces l (Packet (c .before))) (pieces-read (The (c .before)) (c .head-at .result) (c .head-at .ensures)))
-
-segment-at-requires : tie.Need-segment-at-requires Inv-bytes μ-bytes Inv-segments μ-segments Inv-templates μ-templates
-segment-at-requires c κs = (in-range (c .before .before .before), omega (arith, head-few (c .before .before)))
+add-from : tie.Need-add-from Inv-bytes μ-bytes Inv-segments μ-segments Inv-templates μ-templates
+add-from c = omega (arith, in-range c)
 
 add-end : tie.Need-add-end Inv-bytes μ-bytes Inv-segments μ-segments Inv-templates μ-templates
-add-end c = omega (arith, within (c .before))
+add-end c = omega (arith, in-range c)
+
+mul-t : tie.Need-mul-t Inv-bytes μ-bytes Inv-segments μ-segments Inv-templates μ-templates
+mul-t c = omega (arith, in-range c)
+
+sub-t : tie.Need-sub-t Inv-bytes μ-bytes Inv-segments μ-segments Inv-templates μ-templates
+sub-t c = omega (arith, in-range c)
+
+part-t-start : tie.Need-part-t-start Inv-bytes μ-bytes Inv-segments μ-segments Inv-templates μ-templates
+part-t-start c = omega (arith, in-range c)
+
+part-t-end : tie.Need-part-t-end Inv-bytes μ-bytes Inv-segments μ-segments Inv-templates μ-templates
+part-t-end c = omega (arith, in-range c)
+
+head-of-requires : tie.Need-head-of-requires Inv-bytes μ-bytes Inv-segments μ-segments Inv-templates μ-templates
+head-of-requires c κs = all-there (c .before)
+
+segments-holds : tie.Need-segments-holds Inv-bytes μ-bytes Inv-segments μ-segments Inv-templates μ-templates
+segments-holds c = (omega arith, ap (λ l. fitsPieces l (Packet (c .before .before))) (pieces-read (The (c .before .before)) (c .head-of .result) (c .head-of .ensures)))
+
+segment-at-requires : tie.Need-segment-at-requires Inv-bytes μ-bytes Inv-segments μ-segments Inv-templates μ-templates
+segment-at-requires c κs = (all-there (c .before .before .before .before), omega (arith, head-few (c .before .before)))
+
+add-stop : tie.Need-add-stop Inv-bytes μ-bytes Inv-segments μ-segments Inv-templates μ-templates
+add-stop c = omega (arith, within (c .before))
 
 templates-less : tie.Need-templates-less Inv-bytes μ-bytes Inv-segments μ-segments Inv-templates μ-templates
 templates-less c = omega arith
@@ -173,7 +201,7 @@ templates-again : tie.Need-templates-again Inv-bytes μ-bytes Inv-segments μ-se
 templates-again c =
     let g : Segmented = c .before .before in
     let s : InSegments = g .before in
-    let b : InTemplates = s .before .before .before in (
+    let b : InTemplates = s .before .before .before .before in (
       b .before .templates .inv .0,
       omega arith,
       passed b (unfit-pieces (The b) (Packet b) (s .before .segments .inv .1 ∙ fits-short (The b) (Packet b) (s .before .segments .j) _ (s .segments-test .taken) (omega (arith, offset-read g, length-read g, c .if1 .taken)))),
@@ -183,7 +211,7 @@ bytes-holds : tie.Need-bytes-holds Inv-bytes μ-bytes Inv-segments μ-segments I
 bytes-holds c =
     let g : Segmented = c .before .before in
     let s : InSegments = g .before in
-    let b : InTemplates = s .before .before .before in
+    let b : InTemplates = s .before .before .before .before in
     (omega arith, fits-long (The b) (Packet b) (s .before .segments .j) _ (s .segments-test .taken) (Seg g .offset) (Seg g .length) (sym (offset-read g)) (sym (length-read g)) (omega arith))
 
 shared-slice-read-if2 : tie.Need-shared-slice-read-if2 Inv-bytes μ-bytes Inv-segments μ-segments Inv-templates μ-templates
@@ -192,7 +220,7 @@ shared-slice-read-if2 c = omega arith
 byte-at-requires : tie.Need-byte-at-requires Inv-bytes μ-bytes Inv-segments μ-segments Inv-templates μ-templates
 byte-at-requires c κs =
     let g : Segmented = c .before .before .before .before .before in
-    (in-range (g .before .before .before .before), omega (arith, within g))
+    (all-there (g .before .before .before .before .before), omega (arith, within g))
 
 templates-less-2 : tie.Need-templates-less-2 Inv-bytes μ-bytes Inv-segments μ-segments Inv-templates μ-templates
 templates-less-2 c = omega arith
@@ -202,10 +230,10 @@ templates-again-2 c =
     let y : InBytes = c .before .before .before in
     let g : Segmented = y .before .before .before .before in
     let s : InSegments = g .before in
-    let b : InTemplates = s .before .before .before in (
+    let b : InTemplates = s .before .before .before .before in (
       b .before .templates .inv .0,
       omega arith,
-      passed b (unfit-pieces (The b) (Packet b) (s .before .segments .inv .1 ∙ (y .before .bytes .inv .1 ∙ rw (begins-other (The b .bytes) (Packet b) (y .before .bytes .k) (Seg g .offset + Seg g .length) (omega arith) (omega arith) (λ e. c .if2 .taken (e ∙ sym (c .before .byte-at .ensures))))))),
+      passed b (unfit-pieces (The b) (Packet b) (s .before .segments .inv .1 ∙ (y .before .bytes .inv .1 ∙ rw (begins-other (The b) (Packet b) (y .before .bytes .k) (Seg g .offset + Seg g .length) (omega arith) (omega arith) (λ e. c .if2 .taken (e ∙ sym (c .before .byte-at .ensures))))))),
     )
 
 add-k : tie.Need-add-k Inv-bytes μ-bytes Inv-segments μ-segments Inv-templates μ-templates
@@ -218,8 +246,8 @@ bytes-again : tie.Need-bytes-again Inv-bytes μ-bytes Inv-segments μ-segments I
 bytes-again c =
     let y : InBytes = c .before .before .before in
     let g : Segmented = y .before .before .before .before in
-    let b : InTemplates = g .before .before .before .before in
-    (omega arith, y .before .bytes .inv .1 ∙ rw (begins-same (The b .bytes) (Packet b) (y .before .bytes .k) (Seg g .offset + Seg g .length) (omega arith) (omega arith) (c .if2 .left ∙ c .before .byte-at .ensures)))
+    let b : InTemplates = g .before .before .before .before .before in
+    (omega arith, y .before .bytes .inv .1 ∙ rw (begins-same (The b) (Packet b) (y .before .bytes .k) (Seg g .offset + Seg g .length) (omega arith) (omega arith) (c .if2 .left ∙ c .before .byte-at .ensures)))
 
 add-j : tie.Need-add-j Inv-bytes μ-bytes Inv-segments μ-segments Inv-templates μ-templates
 add-j c = omega (arith, head-few (c .before .before .before .before .before .before .before))
@@ -231,13 +259,13 @@ segments-again : tie.Need-segments-again Inv-bytes μ-bytes Inv-segments μ-segm
 segments-again c =
     let g : Segmented = c .before .before .before .before in
     let s : InSegments = g .before in
-    let b : InTemplates = s .before .before .before in
-    (omega arith, s .before .segments .inv .1 ∙ (c .before .bytes .inv .1 ∙ rw (begins-done (The b .bytes) (Packet b) (c .before .bytes .k) (Seg g .offset + Seg g .length) (omega arith))))
+    let b : InTemplates = s .before .before .before .before in
+    (omega arith, s .before .segments .inv .1 ∙ (c .before .bytes .inv .1 ∙ rw (begins-done (The b) (Packet b) (c .before .bytes .k) (Seg g .offset + Seg g .length) (omega arith))))
 
 sum-fits-requires : tie.Need-sum-fits-requires Inv-bytes μ-bytes Inv-segments μ-segments Inv-templates μ-templates
 sum-fits-requires c κs =
     let h : Headed = c .before .before .before in
-    (h .before .before .before .before .before .pre .1, place-read (The (h .before)) (h .head-at .result) (h .head-at .ensures) (ok (h .before)) (c .if3 .taken))
+    (h .before .before .before .before .before .before .before .pre .1 .1, place-read (The (h .before .before)) (h .head-of .result) (h .head-of .ensures) (ok (h .before .before)) (c .if3 .taken))
 
 templates-less-3 : tie.Need-templates-less-3 Inv-bytes μ-bytes Inv-segments μ-segments Inv-templates μ-templates
 templates-less-3 c = omega arith
@@ -246,10 +274,10 @@ templates-again-3 : tie.Need-templates-again-3 Inv-bytes μ-bytes Inv-segments �
 templates-again-3 c =
     let a : AfterSegments = c .before .before .before in
     let h : Headed = a .before .before in
-    let b : InTemplates = h .before in (
+    let b : InTemplates = h .before .before in (
       b .before .templates .inv .0,
       omega arith,
-      passed b (sum-read (The b) (h .head-at .result) (h .head-at .ensures) (Packet b) false (compared a) (c .before .before .if3 .taken) (sym (c .before .sum-fits .ensures) ∙ not-true _ (c .if4 .taken))),
+      passed b (sum-read (The b) (h .head-of .result) (h .head-of .ensures) (Packet b) false (compared a) (c .before .before .if3 .taken) (sym (c .before .sum-fits .ensures) ∙ not-true _ (c .if4 .taken))),
     )
 
 returns : tie.Need-returns Inv-bytes μ-bytes Inv-segments μ-segments Inv-templates μ-templates
@@ -259,15 +287,15 @@ returns-2 : tie.Need-returns-2 Inv-bytes μ-bytes Inv-segments μ-segments Inv-t
 returns-2 c =
     let a : AfterSegments = c .before .before .before in
     let h : Headed = a .before .before in
-    let b : InTemplates = h .before in
-    found b (sum-read (The b) (h .head-at .result) (h .head-at .ensures) (Packet b) true (compared a) (c .before .before .if3 .taken) (sym (c .before .sum-fits .ensures) ∙ not-false _ (c .if4 .left)))
+    let b : InTemplates = h .before .before in
+    found b (sum-read (The b) (h .head-of .result) (h .head-of .ensures) (Packet b) true (compared a) (c .before .before .if3 .taken) (sym (c .before .sum-fits .ensures) ∙ not-false _ (c .if4 .left)))
 
 returns-3 : tie.Need-returns-3 Inv-bytes μ-bytes Inv-segments μ-segments Inv-templates μ-templates
 returns-3 c =
     let a : AfterSegments = c .before in
     let h : Headed = a .before .before in
-    let b : InTemplates = h .before in
-    found b (plain-read (The b) (h .head-at .result) (h .head-at .ensures) (Packet b) (compared a) (c .if3 .left))
+    let b : InTemplates = h .before .before in
+    found b (plain-read (The b) (h .head-of .result) (h .head-of .ensures) (Packet b) (compared a) (c .if3 .left))
 
 pub find-spec : {M : Type 1} → statement M
 find-spec =
@@ -282,10 +310,17 @@ find-spec =
     count-of-requires
     templates-holds
     add-next
-    head-at-requires
+    mul-from
+    add-from
+    add-end
+    mul-t
+    sub-t
+    part-t-start
+    part-t-end
+    head-of-requires
     segments-holds
     segment-at-requires
-    add-end
+    add-stop
     templates-less
     templates-again
     bytes-holds

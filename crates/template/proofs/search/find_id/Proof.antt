@@ -1,45 +1,72 @@
--- What is left to search gives the answer of the whole search. The lent plan stays closed. Assumes nothing.
+-- What is left to search gives the answer of the whole search. The table stays closed. Assumes nothing.
 use Prim.Native.Nat.{ℕ, _-_, _≤_, _<_}
 use mathlib.Core.Path.{_≡_, ap, sym, _∙_}
 use native.Mathlib.Omega.{arith}
-use Rattle.plan.specs.Shapes.{shapesOf}
-use Rattle.lent_plan.specs.declared.Head.{Head}
-use Rattle.lent_plan.specs.Lent.{lentPlan}
+use Rattle.table.specs.Words.{headOf, countIn, wordsAt, templatesOf}
+use Rattle.table.specs.declared.Head.{Head}
+use Rattle.table.proofs.Judging.{words-at}
 use Rattle.template.specs.Fits.{withId}
-use Rattle.template.proofs.Steps.{shapesFrom, shapes-all, id-next, id-here, id-done}
+use Rattle.template.proofs.Steps.{words-length, templatesFrom, templates-all, id-next, id-here, id-done}
 use borrow.Author.Needs.{needs}
 use Rattle.template.proofs.search.find_id.Statement.{statement}
 use Rattle.template.proofs.search.find_id.Tie as tie
 
 abbrev Inv-loop : tie.InvT-loop
-Inv-loop words count wanted i₀ i =
-    (i ≤ count) × (withId wanted (shapesOf (lentPlan words)) ≡ withId wanted (shapesFrom (lentPlan words) i (count - i)))
+Inv-loop table count wanted i₀ i =
+    (i ≤ count) × (withId wanted (templatesOf table) ≡ withId wanted (templatesFrom table i (count - i)))
 
 abbrev μ-loop : tie.MeasureT-loop
-μ-loop words count wanted i₀ i = count - i
+μ-loop table count wanted i₀ i = count - i
 
 abbrev InLoop : Type 0
 InLoop = tie.In-loop Inv-loop μ-loop
 
-in-use : (c : InLoop) → c .before .loop .i < lentPlan (c .before .before .before .args .words .now) .count
+in-use : (c : InLoop) → c .before .loop .i < countIn (c .before .before .before .before .args .table .now)
 in-use c = omega (arith, c .before .before .count-of .ensures)
+
+-- the words that were read are those of template i
+read : (c : tie.After-head-of Inv-loop μ-loop) → c .head-of .result ≡ headOf (wordsAt (c .before .before .before .before .before .before .args .table .now) (c .before .before .before .loop .i))
+read c = c .head-of .ensures ∙ ap headOf (words-at (c .before .before .before .before .before .before .args .table .now) (c .before .before .before .loop .i))
 
 count-of-requires : tie.Need-count-of-requires Inv-loop μ-loop
 count-of-requires c κs = search needs
 
 loop-holds : tie.Need-loop-holds Inv-loop μ-loop
 loop-holds c =
-    let a = c .before .args in
-    (omega arith, ap (withId _) (shapes-all (lentPlan (a .words .now)) ∙ ap (λ (n : ℕ). shapesFrom (lentPlan (a .words .now)) 0 (n - 0)) (sym (c .count-of .ensures))))
+    let a = c .before .before .args in
+    (omega arith, ap (withId _) (templates-all (a .table .now) ∙ ap (λ (n : ℕ). templatesFrom (a .table .now) 0 (n - 0)) (sym (c .count-of .ensures))))
 
-head-at-requires : tie.Need-head-at-requires Inv-loop μ-loop
-head-at-requires c κs = omega (arith, in-use c, c .before .before .before .pre .few)
+mul-from : tie.Need-mul-from Inv-loop μ-loop
+mul-from c = search needs
+
+add-from : tie.Need-add-from Inv-loop μ-loop
+add-from c = search needs
+
+add-end : tie.Need-add-end Inv-loop μ-loop
+add-end c = search needs
+
+mul-head-of : tie.Need-mul-head-of Inv-loop μ-loop
+mul-head-of c = search needs
+
+sub-head-of : tie.Need-sub-head-of Inv-loop μ-loop
+sub-head-of c = search needs
+
+part-head-of-start : tie.Need-part-head-of-start Inv-loop μ-loop
+part-head-of-start c = search needs
+
+part-head-of-end : tie.Need-part-head-of-end Inv-loop μ-loop
+part-head-of-end c = search needs
+
+head-of-requires : tie.Need-head-of-requires Inv-loop μ-loop
+head-of-requires c κs =
+    let s = c .before .before .before .before .before in
+    words-length (s .args .table .now) (c .before .before .loop .i) (s .pre .0) (omega (arith, in-use (c .before), s .pre .1 .few))
 
 returns : tie.Need-returns Inv-loop μ-loop
 returns c =
-    let b : InLoop = c .before .before .before .before in
+    let b : InLoop = c .before .before .before .before .before in
     record {
-      choice = sym (b .before .loop .inv .1 ∙ id-here _ _ _ _ (b .loop-test .taken) (sym (ap (λ (h : Head). h .id .0) (c .before .before .before .head-at .ensures)) ∙ c .if1 .taken));
+      lookup = sym (b .before .loop .inv .1 ∙ id-here _ _ _ _ (b .loop-test .taken) (sym (ap (λ (h : Head). h .id .0) (read (c .before .before .before))) ∙ c .if1 .taken));
       within = in-use b;
     }
 
@@ -51,11 +78,11 @@ loop-less c = search needs
 
 loop-again : tie.Need-loop-again Inv-loop μ-loop
 loop-again c =
-    let b : InLoop = c .before .before .before .before in
-    (omega arith, b .before .loop .inv .1 ∙ id-next _ _ _ _ (b .loop-test .taken) (λ e. c .if1 .left (ap (λ (h : Head). h .id .0) (c .before .before .before .head-at .ensures) ∙ e)))
+    let b : InLoop = c .before .before .before .before .before in
+    (omega arith, b .before .loop .inv .1 ∙ id-next _ _ _ _ (b .loop-test .taken) (λ e. c .if1 .left (ap (λ (h : Head). h .id .0) (read (c .before .before .before)) ∙ e)))
 
 returns-2 : tie.Need-returns-2 Inv-loop μ-loop
-returns-2 c = record { choice = sym (c .before .loop .inv .1 ∙ id-done _ _ _ _ (c .loop-test .left)); within = tt }
+returns-2 c = record { lookup = sym (c .before .loop .inv .1 ∙ id-done _ _ _ _ (c .loop-test .left)); within = tt }
 
 pub find-id-spec : {M : Type 1} → statement M
 find-id-spec =
@@ -65,7 +92,14 @@ find-id-spec =
     μ-loop
     count-of-requires
     loop-holds
-    head-at-requires
+    mul-from
+    add-from
+    add-end
+    mul-head-of
+    sub-head-of
+    part-head-of-start
+    part-head-of-end
+    head-of-requires
     returns
     add-i
     loop-less

@@ -11,7 +11,7 @@ use Rattle.tunnel.proofs.receiving.open.Tie as tie
 
 -- the Context ID is all there
 whole : (c : tie.After-known-told)
-    → readNumber (c .before .before .before .before .before .args .datagram .now) ≡ Whole (c .before .read2 .given .0 .0) (c .before .read2 .given .0 .1 .0)
+    → readNumber (c .before .before .before .before .before .before .args .datagram .now) ≡ Whole (c .before .read2 .given .0 .0) (c .before .read2 .given .0 .1 .0)
 whole c = sym (c .before .before .before .read .ensures .reading) ∙ c .before .read2 .given .1
 
 read-requires : tie.Need-read-requires

@@ -1,9 +1,9 @@
 -- The tests in the order of `openShort`; the template that reaches and is within the limit is rebuilt. Assumes nothing.
-use borrow.Author.Tests.{not-true, not-false}
-use Rattle.tunnel.proofs.ReceivingOpening as Opening
 use Prim.Native.Nat.{_≤_, _<_}
 use native.Mathlib.Omega.{arith}
+use borrow.Author.Tests.{not-true, not-false}
 use Rattle.template.specs.Datagrams.{maxPacket}
+use Rattle.tunnel.proofs.ReceivingOpening as Opening
 use borrow.Author.Needs.{needs}
 use Rattle.tunnel.proofs.receiving.open_by.Statement.{statement}
 use Rattle.tunnel.proofs.receiving.open_by.Tie as tie
@@ -18,8 +18,7 @@ reaches-requires : tie.Need-reaches-requires
 reaches-requires c κs = search needs
 
 returns : tie.Need-returns
-returns c =
-    Opening.opens-refused _ (Opening.short-cut _ _ (c .before .reaches .ensures) (not-true _ (c .if1 .taken)))
+returns c = Opening.opens-refused _ (Opening.short-cut _ _ (c .before .reaches .ensures) (not-true _ (c .if1 .taken)))
 
 rebuilt-length-requires : tie.Need-rebuilt-length-requires
 rebuilt-length-requires c κs = search needs
@@ -30,7 +29,7 @@ returns-2 c =
 
 rebuild-requires : tie.Need-rebuild-requires
 rebuild-requires c κs =
-    let s = c .before .before .before .before .before .before in
+    let s = c .before .before .before .before .before .before .before in
     (s .pre .0, Opening.rebuildable _ _ (c .before .before .before .before .reaches .ensures) (not-false _ (c .before .before .before .if1 .left)) (c .before .before .rebuilt-length .ensures) (s .pre .1) (within (c .before)))
 
 returns-3 : tie.Need-returns-3

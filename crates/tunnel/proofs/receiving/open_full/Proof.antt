@@ -1,6 +1,6 @@
 -- The body within the limit is copied to the front of the image. Assumes nothing.
-use Rattle.tunnel.proofs.ReceivingOpening as Opening
 use native.Mathlib.Omega.{arith}
+use Rattle.tunnel.proofs.ReceivingOpening as Opening
 use borrow.Author.Needs.{needs}
 use Rattle.tunnel.proofs.receiving.open_full.Statement.{statement}
 use Rattle.tunnel.proofs.receiving.open_full.Tie as tie

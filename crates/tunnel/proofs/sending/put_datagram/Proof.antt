@@ -1,16 +1,16 @@
 -- The front of the image is the lowered packet, and its datagram is what is written. Assumes nothing.
-use borrow.Author.Needs.{needs}
 use mathlib.Core.Path.{sym, ap}
-use Rattle.plan.specs.Shapes.{shapesOf}
-use Rattle.lent_plan.specs.Lent.{lentPlan}
+use Rattle.output.proofs.Placing.{put-as}
+use Rattle.table.specs.Words.{templatesOf}
 use Rattle.template.specs.Datagrams.{datagram}
-use Rattle.tunnel.proofs.SendingSteps.{wrote-as, front-lowered, front-length, front-puttable}
+use Rattle.tunnel.proofs.SendingSteps.{front-lowered, front-length, front-puttable}
+use borrow.Author.Needs.{needs}
 use Rattle.tunnel.proofs.sending.put_datagram.Statement.{statement}
 use Rattle.tunnel.proofs.sending.put_datagram.Tie as tie
 
 -- the start
 abbrev In : tie.After-lower-into → tie.Start
-In c = c .before .before .before .before .before
+In c = c .before .before .before .before .before .before
 
 lower-into-requires : tie.Need-lower-into-requires
 lower-into-requires c κs = search needs
@@ -26,7 +26,7 @@ slice-aggregate-put-lowered c =
 put-lowered-requires : tie.Need-put-lowered-requires
 put-lowered-requires c κs =
     let l = c .before .before .before .before in
-    front-puttable (In l .args .packet .now) (In l .args .image .now) (l .lower-into .ensures) (In l .pre)
+    (In l .pre .0, front-puttable (In l .args .packet .now) (In l .args .image .now) (l .lower-into .ensures) (In l .pre .1))
 
 same-length : tie.Need-same-length
 same-length c = search needs
@@ -36,9 +36,8 @@ same-length-2 c = search needs
 
 returns : tie.Need-returns
 returns c =
-    let k = c .before .before .before .before in
-    let l = k .before .before .before .before .before in
-    wrote-as (ap (datagram (shapesOf (lentPlan (In l .args .plan .now)))) (front-lowered (In l .args .packet .now) (In l .args .image .now) (l .lower-into .ensures))) (k .put-lowered .ensures)
+    let l = c .before .before .before .before .before .before .before .before .before in
+    put-as (ap (datagram (templatesOf (In l .args .table .now))) (front-lowered (In l .args .packet .now) (In l .args .image .now) (l .lower-into .ensures))) (c .before .before .before .before .put-lowered .ensures)
 
 pub put-datagram-spec : {M : Type 1} → statement M
 put-datagram-spec =
