@@ -1,4 +1,6 @@
+pub mod StoreSteps
 pub mod ReadCases
 pub mod WriteCases
+pub mod HandingCases
 pub mod ReadLaws
 pub mod WriteLaws

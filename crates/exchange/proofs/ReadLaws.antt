@@ -1,166 +1,134 @@
--- Laws of reading a capsule against the grants: a good list replaces the earlier one whole, all else leaves the state as it was, and a sound state
--- stays sound, since what is read is sound. Assumes nothing.
-use Prim.Native.Nat.{ℕ}
-use mathlib.Core.Path.{_≡_, refl, ap, _∙_}
+-- Laws of reading a capsule against the state: a good list replaces the received one whole and nothing else, all else leaves the state as it was,
+-- and a sound state stays sound, since what is read is sound. Assumes nothing.
+use Prim.Native.Nat.{ℕ, _≤_}
 use mathlib.Core.Bool.{Bool, true, false}
+use mathlib.Core.Path.{_≡_, refl, sym, ap, _∙_}
 use mathlib.Core.List.{List}
-use lib.ListN.{drop}
+use native.Mathlib.Omega.{arith}
+use lib.ListN.{length, drop}
 use Rattle.answer.specs.declared.Refusal.{Refusal}
 use Rattle.answer.specs.declared.Refusal.the-variants.{BrokenState}
+use Rattle.answer.specs.declared.Verdict.the-variants.{Stop}
 use Rattle.answer.specs.Choice.{pick}
 use Rattle.lists.specs.declared.AddressEntry.{AddressEntry}
 use Rattle.lists.specs.declared.RouteRange.{RouteRange}
-use Rattle.lists.specs.declared.AddressList.{AddressList}
-use Rattle.lists.specs.declared.RouteList.{RouteList}
-use Rattle.lists.specs.Rules.{beforeAll}
-use Rattle.lists.specs.Words.{addressList, routeList, soundAddresses, soundRoutes, entriesOf, rangesOf, packEntries, packRanges}
-use Rattle.lists.proofs.Views.{entries-pack, ranges-pack}
-use Rattle.verdict.proofs.PassLaws.{AllSound, sound-facts, facts-sound}
-use Rattle.capsule.specs.declared.Outcome.{Outcome}
-use Rattle.capsule.specs.declared.Outcome.the-variants.{Datagram, Assigned, Requested, Advertised, Skipped, Refused}
-use Rattle.capsule.specs.Capsules.{Capsule, assign, advertise, Reading, capsule, readCapsule}
-use Rattle.capsule.specs.Results.{alone, handed, resultAt, readAt}
-use Rattle.capsule.specs.Sound.{Sound, sound-assign, sound-advertise}
-use Rattle.capsule.proofs.ReadLaws.{read-sound, entries-sound, ranges-sound, lists-sound}
-use Rattle.grant.specs.declared.Grants.{Grants}
-use Rattle.grant.specs.State.{receivedAddresses, receivedRoutes, soundGrants}
-use Rattle.grant.specs.State.{withReceivedAddresses, withReceivedRoutes, withGivenAddresses, withGivenRoutes}
-use Rattle.exchange.specs.declared.GrantsRead.{GrantsRead}
-use Rattle.exchange.specs.Exchange.{received, readResult, readGrants}
+use Rattle.lists.specs.Words.{entriesOf, packEntries, packRanges}
+use Rattle.lists.proofs.Packing.{length-pack-entries, length-pack-ranges}
+use Rattle.capsule.specs.declared.CapsuleRead.{CapsuleRead}
+use Rattle.capsule.specs.Capsules.{Capsule, datagram, assign, request, advertise, unknown, Reading, refused, capsule, readCapsule}
+use Rattle.capsule.specs.Results.{refusedAt, resultAt, readAt}
+use Rattle.capsule.specs.Sound.{Sound, sound-datagram, sound-assign, sound-request, sound-advertise, sound-unknown}
+use Rattle.capsule.proofs.ReadLaws.{read-sound, addresses-sound, routes-sound, entries-packed, ranges-packed}
+use Rattle.state.specs.State.{stateWords, stateIn, soundState, addressesReceived, routesReceived}
+use Rattle.state.proofs.StateLaws.{sound-addresses-received, sound-routes-received}
+use Rattle.state.proofs.StoreLaws.{received-addresses-put, received-routes-put}
+use Rattle.exchange.specs.Reading.{receiveAddresses, receiveRoutes, taken, received, requested, readingIn, ReadsCapsule}
 
--- ---- one list replaced by a sound one
-module _ (g : Grants) (h : soundGrants g ≡ true) where
-  facts : AllSound (g .«received_addresses» .words) (g .«received_routes» .words) (g .«given_addresses» .words) (g .«given_routes» .words)
-  unfolding soundGrants
-  facts = sound-facts (g .«received_addresses» .words) (g .«received_routes» .words) (g .«given_addresses» .words) (g .«given_routes» .words) h
+-- ---- the reading
+module _ (w s : List ℕ) (at : ℕ) where
+  pub reading-broken : soundState (stateIn w) ≡ false → readingIn w s at ≡ refused BrokenState
+  unfolding readingIn
+  reading-broken f = rw f
 
-  module _ (l : AddressList) (s : soundAddresses (l .words) ≡ true) where
-    pub sound-received-addresses : soundGrants (withReceivedAddresses g l) ≡ true
-    unfolding soundGrants
-    sound-received-addresses =
-        facts-sound _ _ _ _
-        (record { addresses = s; routes = facts .routes; reply-addresses = facts .reply-addresses; reply-routes = facts .reply-routes })
+  pub reading-sound : soundState (stateIn w) ≡ true → readingIn w s at ≡ readCapsule (drop at s)
+  unfolding readingIn
+  reading-sound h = rw h
 
-    pub sound-given-addresses : soundGrants (withGivenAddresses g l) ≡ true
-    unfolding soundGrants
-    sound-given-addresses =
-        facts-sound _ _ _ _ (record { addresses = facts .addresses; routes = facts .routes; reply-addresses = s; reply-routes = facts .reply-routes })
-
-  module _ (l : RouteList) (s : soundRoutes (l .words) ≡ true) where
-    pub sound-received-routes : soundGrants (withReceivedRoutes g l) ≡ true
-    unfolding soundGrants
-    sound-received-routes =
-        facts-sound _ _ _ _
-        (record { addresses = facts .addresses; routes = s; reply-addresses = facts .reply-addresses; reply-routes = facts .reply-routes })
-
-    pub sound-given-routes : soundGrants (withGivenRoutes g l) ≡ true
-    unfolding soundGrants
-    sound-given-routes =
-        facts-sound _ _ _ _ (record { addresses = facts .addresses; routes = facts .routes; reply-addresses = facts .reply-addresses; reply-routes = s })
-
--- ---- what is read
-module _ (g : Grants) (s : List ℕ) (at : ℕ) where
-  pub read-broken-state : soundGrants g ≡ false → readGrants g s at ≡ record { grants = g; capsule = alone (Refused BrokenState) }
-  unfolding readGrants
-  read-broken-state f = rw f
-
-  pub read-sound-state : soundGrants g ≡ true → readGrants g s at ≡ readResult g (readAt s at)
-  unfolding readGrants
-  read-sound-state h = rw h
-
-  -- a sound state: the capsule is what `readAt` hands back
-  pub capsule-read : soundGrants g ≡ true → readGrants g s at .capsule ≡ readAt s at
-  capsule-read h = ap (λ (r : GrantsRead). r .capsule) (read-sound-state h)
-
-  -- the state is what the outcome makes of it
-  pub grants-received : readGrants g s at .grants ≡ received g (readGrants g s at .capsule) (readGrants g s at .capsule .outcome)
-  unfolding readGrants
-  grants-received = of (soundGrants g)
+  -- a capsule says that the state is sound
+  pub reading-capsule : (c : Capsule) (start size : ℕ) → readingIn w s at ≡ capsule c start size
+      → (soundState (stateIn w) ≡ true) × (readCapsule (drop at s) ≡ capsule c start size)
+  unfolding readingIn
+  reading-capsule c start size e = of (soundState (stateIn w)) e
     where
-      of : (t : Bool) → pick t (readResult g (readAt s at)) (record { grants = g; capsule = alone (Refused BrokenState) }) .grants
-          ≡ received g
-          (pick t (readResult g (readAt s at)) (record { grants = g; capsule = alone (Refused BrokenState) }) .capsule)
-          (pick t (readResult g (readAt s at)) (record { grants = g; capsule = alone (Refused BrokenState) }) .capsule .outcome)
-      of true = refl
-      of false = refl
+      of : (b : Bool) → pick b (readCapsule (drop at s)) (refused BrokenState) ≡ capsule c start size
+          → (b ≡ true) × (readCapsule (drop at s) ≡ capsule c start size)
+      of true q = (refl, q)
+      of false q = let z : _≡_ {A = ℕ} 0 1 = cc in absurd (omega arith)
 
-  outcome-state : {o : Outcome} → readGrants g s at .capsule .outcome ≡ o → readGrants g s at .grants ≡ received g (readGrants g s at .capsule) o
-  outcome-state e = grants-received ∙ ap (received g (readGrants g s at .capsule)) e
+refused-only : (at : ℕ) (q : Reading) (why : Refusal) → resultAt at q .verdict ≡ Stop why → q ≡ refused why
+refused-only at (refused r) why e = let z : r ≡ why = cc in ap refused z
+refused-only at (capsule c start size) why e = let z : _≡_ {A = ℕ} 0 1 = cc in absurd (omega arith)
 
-  -- a refusal leaves the state as it was; so do types 0 and 2, and unknown types
-  pub refusal-leaves : {r : Refusal} → readGrants g s at .capsule .outcome ≡ Refused r → readGrants g s at .grants ≡ g
-  refusal-leaves e = outcome-state e
+-- ---- what is in force afterwards
+module _ (w : List ℕ) (h : stateWords ≤ length w) where
+  entries-received : (es : List AddressEntry) → Sound (assign es) → stateIn (receiveAddresses w (packEntries es)) ≡ addressesReceived (stateIn w) es
+  entries-received es (sound-assign r) =
+      received-addresses-put w (packEntries es) h (length-pack-entries es) ∙ ap (addressesReceived (stateIn w)) (entries-packed false es r)
 
-  pub datagram-leaves : {start size next : ℕ} → readGrants g s at .capsule .outcome ≡ Datagram start size next → readGrants g s at .grants ≡ g
-  datagram-leaves e = outcome-state e
+  ranges-received : (rs : List RouteRange) → Sound (advertise rs) → stateIn (receiveRoutes w (packRanges rs)) ≡ routesReceived (stateIn w) rs
+  ranges-received rs (sound-advertise r) =
+      received-routes-put w (packRanges rs) h (length-pack-ranges rs) ∙ ap (routesReceived (stateIn w)) (ranges-packed rs r)
 
-  pub request-leaves : {next : ℕ} → readGrants g s at .capsule .outcome ≡ Requested next → readGrants g s at .grants ≡ g
-  request-leaves e = outcome-state e
+  -- a capsule that keeps the rules leaves a sound state
+  taken-sound : soundState (stateIn w) ≡ true → (c : Capsule) → Sound c → soundState (stateIn (taken w c)) ≡ true
+  taken-sound g c (sound-datagram l) = g
+  taken-sound g c (sound-assign {es} r) =
+      ap soundState (entries-received es (sound-assign r)) ∙ sound-addresses-received (stateIn w) g es (addresses-sound false es r)
+  taken-sound g c (sound-request {es} r) = g
+  taken-sound g c (sound-advertise {rs} r) =
+      ap soundState (ranges-received rs (sound-advertise r)) ∙ sound-routes-received (stateIn w) g rs (routes-sound rs r)
+  taken-sound g c sound-unknown = g
 
-  pub unknown-leaves : {next : ℕ} → readGrants g s at .capsule .outcome ≡ Skipped next → readGrants g s at .grants ≡ g
-  unknown-leaves e = outcome-state e
+module _ {w s : List ℕ} {at : ℕ} {l : List ℕ} {r : CapsuleRead} {after list : List ℕ} (t : ReadsCapsule w s at l r after list) where
+  -- a broken state is refused, and else the answer is that of the capsule
+  pub read-broken-state : soundState (stateIn w) ≡ false → r ≡ refusedAt at BrokenState
+  read-broken-state f = t .answer ∙ ap (resultAt at) (reading-broken w s at f)
+
+  pub read-capsule : soundState (stateIn w) ≡ true → r ≡ readAt s at
+  unfolding readAt
+  read-capsule g = t .answer ∙ ap (resultAt at) (reading-sound w s at g)
+
+  -- a refusal leaves all
+  pub read-refusal-leaves : (why : Refusal) → r .verdict ≡ Stop why → (after ≡ w) × (list ≡ l) × (r .next ≡ at)
+  read-refusal-leaves why e =
+      let q = refused-only at (readingIn w s at) why (sym (ap (λ (x : CapsuleRead). x .verdict) (t .answer)) ∙ e) in (
+        t .state ∙ ap (received w) q,
+        t .requested ∙ ap (requested l) q,
+        ap (λ (x : CapsuleRead). x .next) (t .answer ∙ ap (resultAt at) q),
+      )
+
+  module _ (start size : ℕ) where
+    state-after : (c : Capsule) → readingIn w s at ≡ capsule c start size → after ≡ taken w c
+    state-after c e = t .state ∙ ap (received w) e
+
+    -- a DATAGRAM, and a capsule of another type, leave all
+    pub datagram-leaves : (v : List ℕ) → readingIn w s at ≡ capsule (datagram v) start size → (after ≡ w) × (list ≡ l)
+    datagram-leaves v e = (state-after (datagram v) e, t .requested ∙ ap (requested l) e)
+
+    pub other-leaves : readingIn w s at ≡ capsule unknown start size → (after ≡ w) × (list ≡ l)
+    other-leaves e = (state-after unknown e, t .requested ∙ ap (requested l) e)
+
+    -- a request is handed back, and leaves the state
+    pub request-handed : (es : List AddressEntry) → readingIn w s at ≡ capsule (request es) start size → (after ≡ w) × (entriesOf list ≡ es)
+    request-handed es e =
+        let q = reading-capsule w s at (request es) start size e in (
+          state-after (request es) e,
+          ap entriesOf (t .requested ∙ ap (requested l) e) ∙ handed (read-sound (drop at s) (request es) start size (q .1)),
+        )
+      where
+        handed : Sound (request es) → entriesOf (packEntries es) ≡ es
+        handed (sound-request k) = entries-packed true es k
+
+    module _ (h : stateWords ≤ length w) where
+      -- an ADDRESS_ASSIGN replaces the received addresses whole, and nothing else
+      pub assign-replaces : (es : List AddressEntry) → readingIn w s at ≡ capsule (assign es) start size
+          → stateIn after ≡ addressesReceived (stateIn w) es
+      assign-replaces es e =
+          let q = reading-capsule w s at (assign es) start size e in
+          ap stateIn (state-after (assign es) e) ∙ entries-received w h es (read-sound (drop at s) (assign es) start size (q .1))
+
+      -- a ROUTE_ADVERTISEMENT the received routes
+      pub advertise-replaces : (rs : List RouteRange) → readingIn w s at ≡ capsule (advertise rs) start size
+          → stateIn after ≡ routesReceived (stateIn w) rs
+      advertise-replaces rs e =
+          let q = reading-capsule w s at (advertise rs) start size e in
+          ap stateIn (state-after (advertise rs) e) ∙ ranges-received w h rs (read-sound (drop at s) (advertise rs) start size (q .1))
 
   -- a sound state stays sound
-  pub read-keeps-sound : soundGrants g ≡ true → soundGrants (readGrants g s at .grants) ≡ true
-  read-keeps-sound h = ap (λ (r : GrantsRead). soundGrants (r .grants)) (read-sound-state h) ∙ of (readAt s at .outcome)
+  pub read-keeps-sound : stateWords ≤ length w → soundState (stateIn w) ≡ true → soundState (stateIn after) ≡ true
+  read-keeps-sound h g = ap (λ (x : List ℕ). soundState (stateIn x)) (t .state) ∙ of (readingIn w s at) refl
     where
-      of : (o : Outcome) → soundGrants (received g (readAt s at) o) ≡ true
-      of (Assigned next) = sound-received-addresses g h (readAt s at .addresses) (lists-sound s at .0)
-      of (Advertised next) = sound-received-routes g h (readAt s at .routes) (lists-sound s at .1)
-      of (Datagram start size next) = h
-      of (Requested next) = h
-      of (Skipped next) = h
-      of (Refused r) = h
-
--- ---- a good list replaces the one received before, whatever that was
-
--- what a state is after an ADDRESS_ASSIGN of these entries: they are the addresses received, and no other list is touched
-pub record AddressesReplaced (g : Grants) (es : List AddressEntry) (after : Grants) : Type 0 where
-  pub state : after ≡ withReceivedAddresses g (addressList es)
-  pub addresses : receivedAddresses after ≡ es
-  pub routes : after .«received_routes» ≡ g .«received_routes»
-  pub given-addresses : after .«given_addresses» ≡ g .«given_addresses»
-  pub given-routes : after .«given_routes» ≡ g .«given_routes»
-
-pub record RoutesReplaced (g : Grants) (rs : List RouteRange) (after : Grants) : Type 0 where
-  pub state : after ≡ withReceivedRoutes g (routeList rs)
-  pub routes : receivedRoutes after ≡ rs
-  pub addresses : after .«received_addresses» ≡ g .«received_addresses»
-  pub given-addresses : after .«given_addresses» ≡ g .«given_addresses»
-  pub given-routes : after .«given_routes» ≡ g .«given_routes»
-
-entries-read : (es : List AddressEntry) → Sound (assign es) → entriesOf (packEntries es) ≡ es
-entries-read es (sound-assign r) = entries-pack es (entries-sound false es r .1) (entries-sound false es r .0)
-
-ranges-read : (rs : List RouteRange) → Sound (advertise rs) → rangesOf (packRanges rs) ≡ rs
-ranges-read rs (sound-advertise r) = ranges-pack beforeAll rs (ranges-sound rs r .1) (ranges-sound rs r .0)
-
-module _ (g : Grants) (s : List ℕ) (at start size : ℕ) (h : soundGrants g ≡ true) where
-  module _ (c : Capsule) (e : readCapsule (drop at s) ≡ capsule c start size) where
-    pub read-handed : readGrants g s at ≡ readResult g (handed at c start size)
-    unfolding readAt
-    read-handed = read-sound-state g s at h ∙ ap (λ (r : Reading). readResult g (resultAt at r)) e
-
-  pub assigned-replaces : (es : List AddressEntry) → readCapsule (drop at s) ≡ capsule (assign es) start size
-      → AddressesReplaced g es (readGrants g s at .grants)
-  assigned-replaces es e =
-      rw (read-handed (assign es) e)
-      (record {
-        state = refl;
-        addresses = entries-read es (read-sound (drop at s) (assign es) start size e);
-        routes = refl;
-        given-addresses = refl;
-        given-routes = refl;
-      })
-
-  pub advertised-replaces : (rs : List RouteRange) → readCapsule (drop at s) ≡ capsule (advertise rs) start size
-      → RoutesReplaced g rs (readGrants g s at .grants)
-  advertised-replaces rs e =
-      rw (read-handed (advertise rs) e)
-      (record {
-        state = refl;
-        routes = ranges-read rs (read-sound (drop at s) (advertise rs) start size e);
-        addresses = refl;
-        given-addresses = refl;
-        given-routes = refl;
-      })
+      of : (q : Reading) → readingIn w s at ≡ q → soundState (stateIn (received w q)) ≡ true
+      of (refused why) e = g
+      of (capsule c start size) e =
+          taken-sound w h g c (read-sound (drop at s) c start size (reading-capsule w s at c start size e .1))

@@ -1,98 +1,151 @@
--- The ways out of writing a capsule: too small an output, a broken state, and then as the capsule. Assumes nothing.
+-- The ways out of writing a capsule: too small an output, a broken state, and then as the list. Assumes nothing.
 use Prim.Native.Nat.{ℕ, _<_, _≤_}
-use mathlib.Core.Path.{_≡_, refl, sym, _∙_}
-use mathlib.Core.Bool.{true, false}
+use mathlib.Core.Bool.{Bool, true, false, not}
+use mathlib.Core.Path.{_≡_, refl, sym, ap, _∙_}
 use mathlib.Core.List.{List}
+use native.Mathlib.Omega.{arith}
+use lib.Dec.{ltb}
 use lib.ListN.{length}
-use borrow.Author.Tests.{lt-ltb, le-ltb}
 use Rattle.answer.specs.declared.Answer.{Answer}
 use Rattle.answer.specs.declared.Answer.the-variants.{Done, Refused}
 use Rattle.answer.specs.declared.Refusal.{Refusal}
 use Rattle.answer.specs.declared.Refusal.the-variants.{NoRoom, BrokenState}
 use Rattle.answer.specs.declared.Verdict.{Verdict}
 use Rattle.answer.specs.declared.Verdict.the-variants.{Go, Stop}
-use Rattle.answer.specs.Verdict.{answerOf, Writes}
-use Rattle.lists.specs.declared.AddressList.{AddressList}
-use Rattle.lists.specs.declared.RouteList.{RouteList}
-use Rattle.lists.specs.Words.{entriesOf, rangesOf}
-use Rattle.capsule.specs.Capsules.{capsuleBytes, assign, advertise}
-use Rattle.capsule_write.proofs.Frames.{refused}
-use Rattle.capsule_write.specs.Verdicts.{capsuleRoom, addressVerdict, routeVerdict}
-use Rattle.grant.specs.declared.Grants.{Grants}
-use Rattle.grant.specs.State.{soundGrants, withGivenAddresses, withGivenRoutes}
-use Rattle.exchange.specs.Exchange.{stateOf, assignVerdict, advertiseVerdict, AssignWritten, AdvertiseWritten}
+use Rattle.answer.specs.Verdict.{stopIf, answerOf, kept, Writes}
+use Rattle.lists.specs.declared.AddressEntry.{AddressEntry}
+use Rattle.lists.specs.declared.RouteRange.{RouteRange}
+use Rattle.lists.specs.Words.{entriesOf, rangesOf, packEntries, packRanges}
+use Rattle.capsule.specs.Elements.{Parsed, fault, all, parsedVerdict, elementsOf}
+use Rattle.capsule.specs.Capsules.{assign, request, advertise, capsuleBytes, entriesIn, rangesIn}
+use Rattle.capsule.proofs.ReadLaws.{entries-ruled, ranges-ruled, entries-packed, ranges-packed}
+use Rattle.capsule_write.specs.Verdicts.{capsuleRoom, withRoom, entriesVerdict, rangesVerdict, RequestWritten}
+use Rattle.capsule_write.proofs.Frames.{refused, no-room, room-says}
+use Rattle.capsule_write.proofs.Accepted.{room-go}
+use Rattle.capsule_write.proofs.ReadBack.{ruled-entries-go, ruled-ranges-go}
+use Rattle.state.specs.State.{stateIn, soundState}
+use Rattle.exchange.specs.Writing.{giveAddresses, giveRoutes, withState, ready, entriesTaken, rangesTaken, Gives}
+use Rattle.exchange.specs.Writing.{GivesAddresses, GivesRoutes, AssignsValue, AdvertisesValue, RequestsValue}
 
--- the state beside an answer
-state-done : (v : Verdict) (m : ℕ) {n : ℕ} (after before : Grants) → answerOf v m ≡ Done n → after ≡ stateOf v after before
-state-done Go m after before e = refl
-state-done (Stop r) m after before e = cc
+-- ---- before the list is looked at
+module _ (n : ℕ) (w : List ℕ) where
+  pub ready-no-room : n < capsuleRoom → Stop NoRoom ≡ ready n w Go
+  ready-no-room h = sym (no-room n (withState w Go) h)
 
-state-refused : (v : Verdict) (m : ℕ) {r : Refusal} (after before : Grants) → answerOf v m ≡ Refused r → before ≡ stateOf v after before
-state-refused Go m after before e = cc
-state-refused (Stop r) m after before e = refl
+  module _ (h : capsuleRoom ≤ n) where
+    pub ready-broken : soundState (stateIn w) ≡ false → Stop BrokenState ≡ ready n w Go
+    unfolding withState
+    ready-broken f = sym (room-says n (withState w Go) h refl (rw f))
 
--- ---- an assignment
-module _ (g : Grants) (l : AddressList) where
-  module _ (n : ℕ) where
-    pub assign-no-room : n < capsuleRoom → assignVerdict g l n ≡ Stop NoRoom
-    unfolding assignVerdict
-    assign-no-room h = rw (lt-ltb n capsuleRoom h)
+    pub ready-goes : soundState (stateIn w) ≡ true → Go ≡ ready n w Go
+    unfolding withState
+    ready-goes f = sym (room-says n (withState w Go) h refl (rw f))
 
-    pub assign-broken : capsuleRoom ≤ n → soundGrants g ≡ false → assignVerdict g l n ≡ Stop BrokenState
-    unfolding assignVerdict
-    assign-broken h f = rw (le-ltb n capsuleRoom h, f)
+  module _ (v : Verdict) where
+    -- a refusal comes before that of the list
+    pub ready-stops : {why : Refusal} → ready n w Go ≡ Stop why → ready n w v ≡ Stop why
+    unfolding withRoom withState
+    ready-stops e = of (ltb n capsuleRoom) (not (soundState (stateIn w))) e
+      where
+        of : (a b : Bool) {why : Refusal} → stopIf a NoRoom (stopIf b BrokenState Go) ≡ Stop why → stopIf a NoRoom (stopIf b BrokenState v) ≡ Stop why
+        of true b q = q
+        of false true q = q
+        of false false q = let z : _≡_ {A = ℕ} 0 1 = cc in absurd (omega arith)
 
-    -- with room and a sound state, as the capsule
-    pub assign-judged : soundGrants g ≡ true → assignVerdict g l n ≡ addressVerdict false (l .words) n
-    unfolding assignVerdict addressVerdict
-    assign-judged f = rw f
+    -- and else the list decides
+    pub ready-says : ready n w Go ≡ Go → ready n w v ≡ v
+    unfolding withRoom withState
+    ready-says e = of (ltb n capsuleRoom) (not (soundState (stateIn w))) e
+      where
+        of : (a b : Bool) → stopIf a NoRoom (stopIf b BrokenState Go) ≡ Go → stopIf a NoRoom (stopIf b BrokenState v) ≡ v
+        of true b q = let z : _≡_ {A = ℕ} 0 1 = cc in absurd (omega arith)
+        of false true q = let z : _≡_ {A = ℕ} 0 1 = cc in absurd (omega arith)
+        of false false q = refl
 
-  module _ (a : List ℕ) where
-    pub assign-stopped : {r : Refusal} → assignVerdict g l (length a) ≡ Stop r → AssignWritten g l a (record { grants = g; answer = Refused r }) a
-    assign-stopped e = record { writes = refused e; state = rw e }
+  pub ready-room : ready n w Go ≡ Go → capsuleRoom ≤ n
+  ready-room e = room-go n (withState w Go) e .0
 
-    module _ {b : List ℕ} {r : Answer} (f : soundGrants g ≡ true)
-        (w : Writes (addressVerdict false (l .words) (length a)) (capsuleBytes (assign (entriesOf (l .words)))) a r b) where
-      assign-writes : Writes (assignVerdict g l (length a)) (capsuleBytes (assign (entriesOf (l .words)))) a r b
-      assign-writes = rw (assign-judged (length a) f) w
+-- ---- the state beside an answer
+module _ {v : Verdict} {m new w before after : List ℕ} where
+  -- the message was written, and the list stored
+  pub gives-done : {r : Answer} {n : ℕ} {left : List ℕ} → Writes v m before r after → r ≡ Done n → left ≡ new → Gives v m new w before (Done n) left after
+  gives-done {r} {n} {left} t e s = record { writes = rw e at t; state = s ∙ of v (sym (t .answer) ∙ e) }
+    where
+      of : (u : Verdict) → answerOf u (length m) ≡ Done n → new ≡ kept u new w
+      of Go q = refl
+      of (Stop y) q = let z : _≡_ {A = ℕ} 0 1 = cc in absurd (omega arith)
 
-      pub assign-done : {n : ℕ} {after : Grants} → r ≡ Done n → after ≡ withGivenAddresses g l
-          → AssignWritten g l a (record { grants = after; answer = r }) b
-      assign-done t k =
-          record { writes = assign-writes; state = k ∙ state-done (assignVerdict g l (length a)) (length (capsuleBytes (assign (entriesOf (l .words))))) (withGivenAddresses g l) g (sym (assign-writes .answer) ∙ t) }
+  pub gives-refused : {r : Answer} {why : Refusal} → Writes v m before r after → r ≡ Refused why → Gives v m new w before (Refused why) w after
+  gives-refused {r} {why} t e = record { writes = rw e at t; state = of v (sym (t .answer) ∙ e) }
+    where
+      of : (u : Verdict) → answerOf u (length m) ≡ Refused why → w ≡ kept u new w
+      of Go q = let z : _≡_ {A = ℕ} 0 1 = cc in absurd (omega arith)
+      of (Stop y) q = refl
 
-      pub assign-refused : {why : Refusal} → r ≡ Refused why → AssignWritten g l a (record { grants = g; answer = r }) b
-      assign-refused t = record { writes = assign-writes; state = state-refused (assignVerdict g l (length a)) (length (capsuleBytes (assign (entriesOf (l .words))))) (withGivenAddresses g l) g (sym (assign-writes .answer) ∙ t) }
+-- with room, the list alone decides
+pub with-room : {v : Verdict} {m before after : List ℕ} {r : Answer} → capsuleRoom ≤ length before → Writes (withRoom (length before) v) m before r after
+    → Writes v m before r after
+with-room {v} {m} {before} h t = rw (room-says (length before) v h refl refl) at t
 
--- ---- an advertisement
-module _ (g : Grants) (l : RouteList) where
-  module _ (n : ℕ) where
-    pub advertise-no-room : n < capsuleRoom → advertiseVerdict g l n ≡ Stop NoRoom
-    unfolding advertiseVerdict
-    advertise-no-room h = rw (lt-ltb n capsuleRoom h)
+pub gives-stopped : {v : Verdict} {m new w before : List ℕ} {why : Refusal} → v ≡ Stop why → Gives v m new w before (Refused why) w before
+gives-stopped e = record { writes = refused e; state = rw e }
 
-    pub advertise-broken : capsuleRoom ≤ n → soundGrants g ≡ false → advertiseVerdict g l n ≡ Stop BrokenState
-    unfolding advertiseVerdict
-    advertise-broken h f = rw (le-ltb n capsuleRoom h, f)
+-- the same by other words for the verdict, the message and the new state
+pub gives-as : {u v : Verdict} {m k new later w before left after : List ℕ} {r : Answer} → u ≡ v → m ≡ k → new ≡ later
+    → Gives u m new w before r left after → Gives v k later w before r left after
+gives-as e f h g = rw (e, f, h) at g
 
-    pub advertise-judged : soundGrants g ≡ true → advertiseVerdict g l n ≡ routeVerdict (l .words) n
-    unfolding advertiseVerdict routeVerdict
-    advertise-judged f = rw f
+-- ---- a list that was taken from bytes is written
+pub parsed-all : {A : Type 0} (p : Parsed A) → parsedVerdict p ≡ Go → p ≡ all (elementsOf p)
+parsed-all (fault r) e = let z : _≡_ {A = ℕ} 0 1 = cc in absurd (omega arith)
+parsed-all (all xs) e = refl
 
-  module _ (a : List ℕ) where
-    pub advertise-stopped : {r : Refusal} → advertiseVerdict g l (length a) ≡ Stop r
-        → AdvertiseWritten g l a (record { grants = g; answer = Refused r }) a
-    advertise-stopped e = record { writes = refused e; state = rw e }
+module _ (asked : Bool) (v : List ℕ) (e : parsedVerdict (entriesIn asked v) ≡ Go) where
+  pub taken-entries-go : entriesVerdict asked (packEntries (elementsOf (entriesIn asked v))) ≡ Go
+  taken-entries-go = ruled-entries-go asked _ (entries-ruled v asked _ (parsed-all (entriesIn asked v) e))
 
-    module _ {b : List ℕ} {r : Answer} (f : soundGrants g ≡ true)
-        (w : Writes (routeVerdict (l .words) (length a)) (capsuleBytes (advertise (rangesOf (l .words)))) a r b) where
-      advertise-writes : Writes (advertiseVerdict g l (length a)) (capsuleBytes (advertise (rangesOf (l .words)))) a r b
-      advertise-writes = rw (advertise-judged (length a) f) w
+  pub taken-entries : entriesOf (packEntries (elementsOf (entriesIn asked v))) ≡ elementsOf (entriesIn asked v)
+  taken-entries = entries-packed asked _ (entries-ruled v asked _ (parsed-all (entriesIn asked v) e))
 
-      pub advertise-done : {n : ℕ} {after : Grants} → r ≡ Done n → after ≡ withGivenRoutes g l
-          → AdvertiseWritten g l a (record { grants = after; answer = r }) b
-      advertise-done t k =
-          record { writes = advertise-writes; state = k ∙ state-done (advertiseVerdict g l (length a)) (length (capsuleBytes (advertise (rangesOf (l .words))))) (withGivenRoutes g l) g (sym (advertise-writes .answer) ∙ t) }
+module _ (v : List ℕ) (e : parsedVerdict (rangesIn v) ≡ Go) where
+  pub taken-ranges-go : rangesVerdict (packRanges (rangesTaken v)) ≡ Go
+  taken-ranges-go = ruled-ranges-go _ (ranges-ruled v _ (parsed-all (rangesIn v) e))
 
-      pub advertise-refused : {why : Refusal} → r ≡ Refused why → AdvertiseWritten g l a (record { grants = g; answer = r }) b
-      advertise-refused t = record { writes = advertise-writes; state = state-refused (advertiseVerdict g l (length a)) (length (capsuleBytes (advertise (rangesOf (l .words))))) (withGivenRoutes g l) g (sym (advertise-writes .answer) ∙ t) }
+  pub taken-ranges : rangesOf (packRanges (rangesTaken v)) ≡ rangesTaken v
+  taken-ranges = ranges-packed _ (ranges-ruled v _ (parsed-all (rangesIn v) e))
+
+module _ (w v before : List ℕ) (h : ready (length before) w Go ≡ Go) where
+  module _ {l left after : List ℕ} {r : Answer} where
+    pub assign-written : parsedVerdict (entriesIn false v) ≡ Go → l ≡ packEntries (entriesTaken v)
+        → GivesAddresses w l before r left after → AssignsValue w v before r left after
+    assign-written e q g =
+        gives-as (ap (entriesVerdict false) q ∙ taken-entries-go false v e ∙ sym (ready-says (length before) w (parsedVerdict (entriesIn false v)) h ∙ e))
+        (ap (λ (x : List ℕ). capsuleBytes (assign (entriesOf x))) q ∙ ap (λ (es : List AddressEntry). capsuleBytes (assign es)) (taken-entries false v e))
+        (ap (giveAddresses w) q)
+        g
+
+    pub advertise-written : parsedVerdict (rangesIn v) ≡ Go → l ≡ packRanges (rangesTaken v)
+        → GivesRoutes w l before r left after → AdvertisesValue w v before r left after
+    advertise-written e q g =
+        gives-as (ap rangesVerdict q ∙ taken-ranges-go v e ∙ sym (ready-says (length before) w (parsedVerdict (rangesIn v)) h ∙ e))
+        (ap (λ (x : List ℕ). capsuleBytes (advertise (rangesOf x))) q ∙ ap (λ (rs : List RouteRange). capsuleBytes (advertise rs)) (taken-ranges v e))
+        (ap (giveRoutes w) q)
+        g
+
+module _ (v before : List ℕ) where
+  pub request-no-room : length before < capsuleRoom → RequestsValue v before (Refused NoRoom) before
+  request-no-room h = refused (no-room (length before) (parsedVerdict (entriesIn true v)) h)
+
+  module _ (h : capsuleRoom ≤ length before) where
+    pub request-refused : {why : Refusal} → parsedVerdict (entriesIn true v) ≡ Stop why → RequestsValue v before (Refused why) before
+    request-refused e = refused (room-says (length before) (parsedVerdict (entriesIn true v)) h refl e)
+
+    pub request-written : {l after : List ℕ} {r : Answer} → parsedVerdict (entriesIn true v) ≡ Go → l ≡ packEntries (elementsOf (entriesIn true v))
+        → RequestWritten l before r after → RequestsValue v before r after
+    request-written e q g =
+        rw (
+          ap (λ (x : List ℕ). withRoom (length before) (entriesVerdict true x)) q
+              ∙ ap (withRoom (length before)) (taken-entries-go true v e ∙ sym e),
+          ap (λ (x : List ℕ). capsuleBytes (request (entriesOf x))) q ∙ ap (λ (es : List AddressEntry). capsuleBytes (request es)) (taken-entries true v e),
+        )
+        at g

@@ -1,179 +1,181 @@
--- Laws of writing a capsule against the grants: the list written becomes the given one and is read back, a refusal alters nothing, and a sound state
--- stays sound, since only sound lists are written. Assumes nothing.
-use Prim.Native.Nat.{ℕ, zero, suc, _+_, _*_, _^_, _<_}
+-- Laws of writing a capsule against the state: the list written becomes the given one and nothing else changes, a refusal alters nothing, a sound
+-- state stays sound, and the other end reads the same list. Assumes nothing.
+use Prim.Native.Nat.{ℕ, _≤_}
+use mathlib.Core.Bool.{true, false, not}
 use mathlib.Core.Path.{_≡_, refl, sym, ap, _∙_}
-use mathlib.Core.Bool.{Bool, true, false, not}
-use mathlib.Core.List.{List, [], _++_}
+use mathlib.Core.List.{List, _++_}
 use native.Mathlib.Omega.{arith}
-use lib.Dec.{ltb, leb}
-use lib.ListN.{length, getD, take, drop}
+use lib.ListN.{length, take, drop}
 use lib.Seq.{take-at}
-use borrow.Author.Tests.{lt-ltb}
+use Rattle.answer.specs.declared.Answer.{Answer}
 use Rattle.answer.specs.declared.Answer.the-variants.{Done, Refused}
 use Rattle.answer.specs.declared.Refusal.{Refusal}
-use Rattle.answer.specs.declared.Refusal.the-variants.{NoRoom, BrokenState}
+use Rattle.answer.specs.declared.Refusal.the-variants.{BrokenState}
 use Rattle.answer.specs.declared.Verdict.{Verdict}
 use Rattle.answer.specs.declared.Verdict.the-variants.{Go, Stop}
-use Rattle.answer.specs.Choice.{pick}
-use Rattle.answer.specs.Verdict.{stopIf, answerOf}
-use Rattle.answer.proofs.Tables.{done-go, done-count}
-use Rattle.lists.specs.declared.AddressList.{AddressList}
-use Rattle.lists.specs.declared.RouteList.{RouteList}
-use Rattle.octets.specs.Scan.{from, allOf}
-use Rattle.lists.specs.Words.{countOf, maxAddresses, maxRanges, entryAt, rangeAt, entriesOf, rangesOf}
-use Rattle.capsule.specs.Capsules.{assign, advertise, capsule, capsuleBytes, readCapsule}
-use Rattle.capsule.specs.Sound.{kindOf, startOf, sound-assign, sound-advertise, inWords, entryInWords, rangeInWords}
+use Rattle.answer.specs.Verdict.{answerOf, kept}
+use Rattle.answer.proofs.Tables.{done-go, done-count, go-rest}
+use Rattle.octets.specs.Big.{Bytes}
+use Rattle.lists.specs.Words.{addressWords, routeWords, entriesOf, rangesOf, packEntries, packRanges}
+use Rattle.lists.proofs.Packing.{length-pack-entries, length-pack-ranges}
+use Rattle.capsule.specs.declared.CapsuleRead.{CapsuleRead}
+use Rattle.capsule.specs.Elements.{parsedVerdict}
+use Rattle.capsule.specs.Capsules.{Capsule, kindOf, assign, advertise, unknown, capsule, readCapsule, capsuleBytes, entriesIn, rangesIn}
+use Rattle.capsule.specs.Sound.{valueStart, Sound, sound-assign, sound-advertise, inWords}
+use Rattle.capsule.proofs.ReadLaws.{entries-ruled, ranges-ruled, entries-in-words, ranges-in-words, addresses-sound, routes-sound}
 use Rattle.capsule.proofs.RoundTrip.{read-written}
-use Rattle.capsule_write.specs.Verdicts.{capsuleRoom}
-use Rattle.capsule_write.proofs.Accepted.{EntriesGo, RangesGo, entries-go, ranges-go}
-use Rattle.grant.specs.declared.Grants.{Grants}
-use Rattle.grant.specs.State.{receivedAddresses, receivedRoutes, givenAddresses, givenRoutes, soundGrants, withGivenAddresses, withGivenRoutes}
-use Rattle.exchange.specs.declared.GrantsWritten.{GrantsWritten}
-use Rattle.exchange.specs.Exchange.{readGrants, stateOf, assignVerdict, advertiseVerdict, AssignWritten, AdvertiseWritten}
-use Rattle.exchange.proofs.ReadLaws.{sound-given-addresses, sound-given-routes, assigned-replaces, advertised-replaces}
+use Rattle.capsule_write.specs.Verdicts.{entriesVerdict, rangesVerdict}
+use Rattle.capsule_write.proofs.Accepted.{room-go, entries-go, ranges-go}
+use Rattle.capsule_write.proofs.ReadBack.{Words, assign-sound, advertise-sound, entries-words, ranges-words}
+use Rattle.state.specs.State.{stateWords, stateIn, soundState, addressesReceived, routesReceived, addressesGiven, routesGiven}
+use Rattle.state.proofs.StateLaws.{sound-addresses-given, sound-routes-given}
+use Rattle.state.proofs.StoreLaws.{given-addresses-put, given-routes-put}
+use Rattle.exchange.specs.Reading.{readingIn, ReadsCapsule}
+use Rattle.exchange.specs.Writing.{withState, ready, entriesTaken, rangesTaken, Gives}
+use Rattle.exchange.specs.Writing.{Assigns, Advertises, AssignsValue, AdvertisesValue}
+use Rattle.exchange.proofs.ReadLaws.{reading-sound, assign-replaces, advertise-replaces}
+use Rattle.exchange.proofs.WriteCases.{parsed-all, taken-entries, taken-ranges}
 
--- ---- verdicts
-stop-go : (b : Bool) (r : Refusal) (v : Verdict) → stopIf b r v ≡ Go → v ≡ Go
-stop-go true r v e = cc
-stop-go false r v e = e
+-- ---- any list
+refused-stop : (v : Verdict) (m : ℕ) (why : Refusal) → answerOf v m ≡ Refused why → v ≡ Stop why
+refused-stop Go m why e = let z : _≡_ {A = ℕ} 0 1 = cc in absurd (omega arith)
+refused-stop (Stop r) m why e = let z : r ≡ why = cc in ap Stop z
 
-refused-stop : (v : Verdict) (m : ℕ) (r : Refusal) → answerOf v m ≡ Refused r → v ≡ Stop r
-refused-stop Go m r e = cc
-refused-stop (Stop q) m r e = cc
+-- a `Go` of all is a `Go` of the list
+pub ready-go : (n : ℕ) (w : List ℕ) (v : Verdict) → ready n w v ≡ Go → v ≡ Go
+unfolding withState
+ready-go n w v e = go-rest (not (soundState (stateIn w))) BrokenState v (room-go n (withState w v) e .1)
 
--- the bytes in front of an output that was written to
-front : (m before after : List ℕ) (n : ℕ) → after ≡ m ++ drop (length m) before → length m ≡ n → take n after ≡ m
-front m before after n e k = ap (take n) e ∙ take-at m (drop (length m) before) n k
+module _ {v : Verdict} {m new w before : List ℕ} {r : Answer} {left after : List ℕ} (g : Gives v m new w before r left after) where
+  -- a refusal leaves the state and the output
+  pub refusal-leaves : (why : Refusal) → r ≡ Refused why → (left ≡ w) × (after ≡ before)
+  refusal-leaves why e =
+      let s = refused-stop v (length m) why (sym (g .writes .answer) ∙ e) in
+      (rw s at (g .state), rw s at (g .writes .output))
 
--- ---- lists in words: what 64-bit words hold is written as it is
-all-from : {A : Type 0} (p : A → Bool) (f : ℕ → A) → ((i : ℕ) → p (f i) ≡ true) → (i n : ℕ) → allOf p (from f i n) ≡ true
-all-from p f h i zero = refl
-all-from p f h i (suc n) = rw (h i) (all-from p f h (suc i) n)
+  -- a sound state stays sound where what is stored is
+  keeps-sound : soundState (stateIn w) ≡ true → (v ≡ Go → soundState (stateIn new) ≡ true) → soundState (stateIn left) ≡ true
+  keeps-sound h f = ap (λ (x : List ℕ). soundState (stateIn x)) (g .state) ∙ of v refl
+    where
+      of : (u : Verdict) → v ≡ u → soundState (stateIn (kept u new w)) ≡ true
+      of Go e = f e
+      of (Stop q) e = h
 
-all-picked : {A : Type 0} (p : A → Bool) (b : Bool) (xs : List A) → allOf p xs ≡ true → allOf p (pick b xs []) ≡ true
-all-picked p true xs h = h
-all-picked p false xs h = refl
+  module _ (n : ℕ) (e : r ≡ Done n) where
+    went : v ≡ Go
+    went = done-go v (length m) n (sym (g .writes .answer) ∙ e)
 
-module _ (w : List ℕ) (small : (i : ℕ) → getD w i 0 < 2 ^ 64) where
-  is-word : (i : ℕ) → ltb (getD w i 0) (2 ^ 64) ≡ true
-  is-word i = lt-ltb (getD w i 0) (2 ^ 64) (small i)
+    counted : length m ≡ n
+    counted = done-count v (length m) n (sym (g .writes .answer) ∙ e)
 
-  entry-in-words : (i : ℕ) → entryInWords (entryAt w i) ≡ true
-  unfolding entryAt
-  entry-in-words i = rw (is-word (i * 4 + 3), is-word (i * 4 + 4))
+    pub given-state : left ≡ new
+    given-state = rw went at (g .state)
 
-  range-in-words : (i : ℕ) → rangeInWords (rangeAt w i) ≡ true
-  unfolding rangeAt
-  range-in-words i = rw (is-word (i * 5 + 2), is-word (i * 5 + 3), is-word (i * 5 + 4), is-word (i * 5 + 5))
+    pub written-bytes : take n after ≡ m
+    written-bytes = ap (take n) (rw went at (g .writes .output)) ∙ take-at m (drop (length m) before) n counted
 
-  pub entries-in-words : inWords (assign (entriesOf w)) ≡ true
-  unfolding entriesOf
-  entries-in-words =
-      all-picked entryInWords (leb (countOf w) maxAddresses) (from (entryAt w) 0 (countOf w)) (all-from entryInWords (entryAt w) entry-in-words 0 (countOf w))
+-- the other end, in a sound state x, reads the capsule that was written, whatever follows it
+other-reads : (c : Capsule) {v : Verdict} {new w before : List ℕ} {r : Answer} {left after : List ℕ} (g : Gives v (capsuleBytes c) new w before r left after)
+    (n : ℕ) → r ≡ Done n → Sound c → inWords c ≡ true → (c ≡ unknown → ⊥) → (x rest : List ℕ) → soundState (stateIn x) ≡ true
+    → readingIn x (take n after ++ rest) 0 ≡ capsule c (valueStart c) n
+other-reads c {after = after} g n e s i k x rest h =
+    reading-sound x (take n after ++ rest) 0 h
+    ∙ ap (λ (b : List ℕ). readCapsule (b ++ rest)) (written-bytes g n e)
+    ∙ read-written c rest s i k
+    ∙ ap (capsule c (valueStart c)) (counted g n e)
 
-  pub ranges-in-words : inWords (advertise (rangesOf w)) ≡ true
-  unfolding rangesOf
-  ranges-in-words =
-      all-picked rangeInWords (leb (countOf w) maxRanges) (from (rangeAt w) 0 (countOf w)) (all-from rangeInWords (rangeAt w) range-in-words 0 (countOf w))
+-- ---- a list in words
+module _ (w l before : List ℕ) {r : Answer} {left after : List ℕ} (h : stateWords ≤ length w) where
+  module _ (q : length l ≡ addressWords) (g : Assigns w l before r left after) where
+    -- the given addresses are replaced whole, and nothing else
+    pub assign-gives : (n : ℕ) → r ≡ Done n → stateIn left ≡ addressesGiven (stateIn w) (entriesOf l)
+    assign-gives n e = ap stateIn (given-state g n e) ∙ given-addresses-put w l h q
 
--- ---- an assignment
-module _ (g : Grants) (l : AddressList) where
-  -- what a `Go` says of the list
-  pub assign-go : (n : ℕ) → assignVerdict g l n ≡ Go → EntriesGo false (l .words)
-  unfolding assignVerdict
-  assign-go n e = entries-go false (l .words) (stop-go (not (soundGrants g)) BrokenState _ (stop-go (ltb n capsuleRoom) NoRoom _ e))
+    pub assign-keeps-sound : soundState (stateIn w) ≡ true → soundState (stateIn left) ≡ true
+    assign-keeps-sound s =
+        keeps-sound g s
+        (λ e.
+        ap soundState (given-addresses-put w l h q)
+        ∙ sound-addresses-given (stateIn w) s (entriesOf l) (entries-go false l (ready-go (length before) w (entriesVerdict false l) e) .sound))
 
-  module _ (before : List ℕ) (r : GrantsWritten) (after : List ℕ) (w : AssignWritten g l before r after) where
-    -- a refusal leaves the state and the output as they were
-    pub assign-refusal-leaves : (why : Refusal) → r .answer ≡ Refused why → (r .grants ≡ g) × (after ≡ before)
-    assign-refusal-leaves why e =
-        let s = refused-stop (assignVerdict g l (length before)) (length (capsuleBytes (assign (entriesOf (l .words))))) why (sym (w .writes .answer) ∙ e) in
-        (rw s at (w .state), rw s at (w .writes .output))
+    -- the other end receives the list that this end gives
+    pub assign-received : Words l → (n : ℕ) → r ≡ Done n → (x rest lent : List ℕ) {a : CapsuleRead} {state list : List ℕ} → stateWords ≤ length x
+        → soundState (stateIn x) ≡ true → ReadsCapsule x (take n after ++ rest) 0 lent a state list
+        → stateIn state ≡ addressesReceived (stateIn x) (entriesOf l)
+    assign-received small n e x rest lent k s t =
+        let go = ready-go (length before) w (entriesVerdict false l) (went g n e) in
+        assign-replaces t (valueStart (assign (entriesOf l))) n k (entriesOf l)
+        (other-reads (assign (entriesOf l)) g n e (assign-sound l go) (entries-words l small) (λ y. omega (arith, ap kindOf y)) x rest s)
 
-    -- a sound state stays sound
-    pub assign-keeps-sound : soundGrants g ≡ true → soundGrants (r .grants) ≡ true
-    assign-keeps-sound h = rw (w .state) (of (assignVerdict g l (length before)) refl)
-      where
-        of : (v : Verdict) → assignVerdict g l (length before) ≡ v → soundGrants (stateOf v (withGivenAddresses g l) g) ≡ true
-        of Go e = sound-given-addresses g h l (assign-go (length before) e .sound)
-        of (Stop q) e = h
+  module _ (q : length l ≡ routeWords) (g : Advertises w l before r left after) where
+    pub advertise-gives : (n : ℕ) → r ≡ Done n → stateIn left ≡ routesGiven (stateIn w) (rangesOf l)
+    advertise-gives n e = ap stateIn (given-state g n e) ∙ given-routes-put w l h q
 
-    module _ (n : ℕ) (e : r .answer ≡ Done n) where
-      assign-went : assignVerdict g l (length before) ≡ Go
-      assign-went = done-go (assignVerdict g l (length before)) (length (capsuleBytes (assign (entriesOf (l .words))))) n (sym (w .writes .answer) ∙ e)
+    pub advertise-keeps-sound : soundState (stateIn w) ≡ true → soundState (stateIn left) ≡ true
+    advertise-keeps-sound s =
+        keeps-sound g s
+        (λ e.
+        ap soundState (given-routes-put w l h q)
+        ∙ sound-routes-given (stateIn w) s (rangesOf l) (ranges-go l (ready-go (length before) w (rangesVerdict l) e) .sound))
 
-      assign-count : length (capsuleBytes (assign (entriesOf (l .words)))) ≡ n
-      assign-count = done-count (assignVerdict g l (length before)) (length (capsuleBytes (assign (entriesOf (l .words))))) n (sym (w .writes .answer) ∙ e)
+    pub advertise-received : Words l → (n : ℕ) → r ≡ Done n → (x rest lent : List ℕ) {a : CapsuleRead} {state list : List ℕ} → stateWords ≤ length x
+        → soundState (stateIn x) ≡ true → ReadsCapsule x (take n after ++ rest) 0 lent a state list
+        → stateIn state ≡ routesReceived (stateIn x) (rangesOf l)
+    advertise-received small n e x rest lent k s t =
+        let go = ready-go (length before) w (rangesVerdict l) (went g n e) in
+        advertise-replaces t (valueStart (advertise (rangesOf l))) n k (rangesOf l)
+        (other-reads (advertise (rangesOf l)) g n e (advertise-sound l go) (ranges-words l small) (λ y. omega (arith, ap kindOf y)) x rest s)
 
-      -- the list written is the one given, and no other list is touched
-      pub assign-state : r .grants ≡ withGivenAddresses g l
-      assign-state = rw assign-went at (w .state)
+-- ---- a list in bytes
+module _ (w v before : List ℕ) {r : Answer} {left after : List ℕ} (h : stateWords ≤ length w) where
+  module _ (g : AssignsValue w v before r left after) where
+    pub assign-value-gives : (n : ℕ) → r ≡ Done n → stateIn left ≡ addressesGiven (stateIn w) (entriesTaken v)
+    assign-value-gives n e =
+        let go = ready-go (length before) w (parsedVerdict (entriesIn false v)) (went g n e) in
+        ap stateIn (given-state g n e)
+        ∙ given-addresses-put w (packEntries (entriesTaken v)) h (length-pack-entries (entriesTaken v))
+        ∙ ap (addressesGiven (stateIn w)) (taken-entries false v go)
 
-      pub assign-given : givenAddresses (r .grants) ≡ entriesOf (l .words)
-      assign-given = ap givenAddresses assign-state
+    pub assign-value-keeps-sound : soundState (stateIn w) ≡ true → soundState (stateIn left) ≡ true
+    assign-value-keeps-sound s =
+        keeps-sound g s
+        (λ e.
+        let go = ready-go (length before) w (parsedVerdict (entriesIn false v)) e in
+        ap soundState
+        (given-addresses-put w (packEntries (entriesTaken v)) h (length-pack-entries (entriesTaken v)) ∙ ap (addressesGiven (stateIn w)) (taken-entries false v go))
+        ∙ sound-addresses-given (stateIn w) s (entriesTaken v) (addresses-sound false (entriesTaken v) (entries-ruled v false (entriesTaken v) (parsed-all (entriesIn false v) go))))
 
-      pub assign-bytes : take n after ≡ capsuleBytes (assign (entriesOf (l .words)))
-      assign-bytes = front _ before after n (rw assign-went at (w .writes .output)) assign-count
+    pub assign-value-received : Bytes v → (n : ℕ) → r ≡ Done n → (x rest lent : List ℕ) {a : CapsuleRead} {state list : List ℕ} → stateWords ≤ length x
+        → soundState (stateIn x) ≡ true → ReadsCapsule x (take n after ++ rest) 0 lent a state list
+        → stateIn state ≡ addressesReceived (stateIn x) (entriesTaken v)
+    assign-value-received b n e x rest lent k s t =
+        let es = entriesTaken v in
+        let p = parsed-all (entriesIn false v) (ready-go (length before) w (parsedVerdict (entriesIn false v)) (went g n e)) in
+        assign-replaces t (valueStart (assign es)) n k es
+        (other-reads (assign es) g n e (sound-assign (entries-ruled v false es p)) (entries-in-words v false es p b) (λ y. omega (arith, ap kindOf y)) x rest s)
 
-      -- the bytes written are read as these entries, whatever follows them
-      pub assign-read : ((i : ℕ) → getD (l .words) i 0 < 2 ^ 64) → (rest : List ℕ)
-          → readCapsule (take n after ++ rest) ≡ capsule (assign (givenAddresses (r .grants))) (startOf (assign (entriesOf (l .words)))) n
-      assign-read small rest =
-          let go = assign-go (length before) assign-went in
-          rw (assign-bytes, assign-given)
-          (read-written (assign (entriesOf (l .words))) rest (sound-assign (record { elements = go .faultless; number = go .counted })) (entries-in-words (l .words) small) (λ k. omega (arith, ap kindOf k))
-          ∙ ap (capsule (assign (entriesOf (l .words))) (startOf (assign (entriesOf (l .words))))) assign-count)
+  module _ (g : AdvertisesValue w v before r left after) where
+    pub advertise-value-gives : (n : ℕ) → r ≡ Done n → stateIn left ≡ routesGiven (stateIn w) (rangesTaken v)
+    advertise-value-gives n e =
+        let go = ready-go (length before) w (parsedVerdict (rangesIn v)) (went g n e) in
+        ap stateIn (given-state g n e)
+        ∙ given-routes-put w (packRanges (rangesTaken v)) h (length-pack-ranges (rangesTaken v))
+        ∙ ap (routesGiven (stateIn w)) (taken-ranges v go)
 
-      -- the other end, in any sound state, receives the list that this end gives
-      pub assign-received : ((i : ℕ) → getD (l .words) i 0 < 2 ^ 64) → (rest : List ℕ) (other : Grants) → soundGrants other ≡ true
-          → receivedAddresses (readGrants other (take n after ++ rest) 0 .grants) ≡ givenAddresses (r .grants)
-      assign-received small rest other h =
-          assigned-replaces other (take n after ++ rest) 0 (startOf (assign (entriesOf (l .words)))) n h (givenAddresses (r .grants)) (assign-read small rest) .addresses
+    pub advertise-value-keeps-sound : soundState (stateIn w) ≡ true → soundState (stateIn left) ≡ true
+    advertise-value-keeps-sound s =
+        keeps-sound g s
+        (λ e.
+        let go = ready-go (length before) w (parsedVerdict (rangesIn v)) e in
+        ap soundState
+        (given-routes-put w (packRanges (rangesTaken v)) h (length-pack-ranges (rangesTaken v)) ∙ ap (routesGiven (stateIn w)) (taken-ranges v go))
+        ∙ sound-routes-given (stateIn w) s (rangesTaken v) (routes-sound (rangesTaken v) (ranges-ruled v (rangesTaken v) (parsed-all (rangesIn v) go))))
 
--- ---- an advertisement
-module _ (g : Grants) (l : RouteList) where
-  pub advertise-go : (n : ℕ) → advertiseVerdict g l n ≡ Go → RangesGo (l .words)
-  unfolding advertiseVerdict
-  advertise-go n e = ranges-go (l .words) (stop-go (not (soundGrants g)) BrokenState _ (stop-go (ltb n capsuleRoom) NoRoom _ e))
-
-  module _ (before : List ℕ) (r : GrantsWritten) (after : List ℕ) (w : AdvertiseWritten g l before r after) where
-    pub advertise-refusal-leaves : (why : Refusal) → r .answer ≡ Refused why → (r .grants ≡ g) × (after ≡ before)
-    advertise-refusal-leaves why e =
-        let s = refused-stop (advertiseVerdict g l (length before)) (length (capsuleBytes (advertise (rangesOf (l .words))))) why (sym (w .writes .answer) ∙ e) in
-        (rw s at (w .state), rw s at (w .writes .output))
-
-    pub advertise-keeps-sound : soundGrants g ≡ true → soundGrants (r .grants) ≡ true
-    advertise-keeps-sound h = rw (w .state) (of (advertiseVerdict g l (length before)) refl)
-      where
-        of : (v : Verdict) → advertiseVerdict g l (length before) ≡ v → soundGrants (stateOf v (withGivenRoutes g l) g) ≡ true
-        of Go e = sound-given-routes g h l (advertise-go (length before) e .sound)
-        of (Stop q) e = h
-
-    module _ (n : ℕ) (e : r .answer ≡ Done n) where
-      advertise-went : advertiseVerdict g l (length before) ≡ Go
-      advertise-went = done-go (advertiseVerdict g l (length before)) (length (capsuleBytes (advertise (rangesOf (l .words))))) n (sym (w .writes .answer) ∙ e)
-
-      advertise-count : length (capsuleBytes (advertise (rangesOf (l .words)))) ≡ n
-      advertise-count = done-count (advertiseVerdict g l (length before)) (length (capsuleBytes (advertise (rangesOf (l .words))))) n (sym (w .writes .answer) ∙ e)
-
-      pub advertise-state : r .grants ≡ withGivenRoutes g l
-      advertise-state = rw advertise-went at (w .state)
-
-      pub advertise-given : givenRoutes (r .grants) ≡ rangesOf (l .words)
-      advertise-given = ap givenRoutes advertise-state
-
-      pub advertise-bytes : take n after ≡ capsuleBytes (advertise (rangesOf (l .words)))
-      advertise-bytes = front _ before after n (rw advertise-went at (w .writes .output)) advertise-count
-
-      pub advertise-read : ((i : ℕ) → getD (l .words) i 0 < 2 ^ 64) → (rest : List ℕ)
-          → readCapsule (take n after ++ rest) ≡ capsule (advertise (givenRoutes (r .grants))) (startOf (advertise (rangesOf (l .words)))) n
-      advertise-read small rest =
-          let go = advertise-go (length before) advertise-went in
-          rw (advertise-bytes, advertise-given)
-          (read-written (advertise (rangesOf (l .words))) rest (sound-advertise (record { elements = go .faultless; number = go .counted })) (ranges-in-words (l .words) small) (λ k. omega (arith, ap kindOf k))
-          ∙ ap (capsule (advertise (rangesOf (l .words))) (startOf (advertise (rangesOf (l .words))))) advertise-count)
-
-      pub advertise-received : ((i : ℕ) → getD (l .words) i 0 < 2 ^ 64) → (rest : List ℕ) (other : Grants) → soundGrants other ≡ true
-          → receivedRoutes (readGrants other (take n after ++ rest) 0 .grants) ≡ givenRoutes (r .grants)
-      advertise-received small rest other h =
-          advertised-replaces other (take n after ++ rest) 0 (startOf (advertise (rangesOf (l .words)))) n h (givenRoutes (r .grants)) (advertise-read small rest) .routes
+    pub advertise-value-received : Bytes v → (n : ℕ) → r ≡ Done n → (x rest lent : List ℕ) {a : CapsuleRead} {state list : List ℕ} → stateWords ≤ length x
+        → soundState (stateIn x) ≡ true → ReadsCapsule x (take n after ++ rest) 0 lent a state list
+        → stateIn state ≡ routesReceived (stateIn x) (rangesTaken v)
+    advertise-value-received b n e x rest lent k s t =
+        let rs = rangesTaken v in
+        let p = parsed-all (rangesIn v) (ready-go (length before) w (parsedVerdict (rangesIn v)) (went g n e)) in
+        advertise-replaces t (valueStart (advertise rs)) n k rs
+        (other-reads (advertise rs) g n e (sound-advertise (ranges-ruled v rs p)) (ranges-in-words v rs p b) (λ y. omega (arith, ap kindOf y)) x rest s)

@@ -1,1 +1,4 @@
-pub mod Exchange
+pub mod Reading
+pub mod Writing
+pub mod Handing
+pub mod Examples

@@ -1,0 +1,64 @@
+-- The refusals before the bytes are looked at, a value that is refused, and a list that is written as it was read.
+use mathlib.Core.Bool.{false}
+use mathlib.Core.Path.{sym, _∙_}
+use Rattle.capsule.specs.Capsules.{entriesIn}
+use Rattle.exchange.proofs.ReadCases.{entries-says, entries-list}
+use Rattle.exchange.proofs.WriteCases as Write
+use borrow.Author.Needs.{needs}
+use Rattle.exchange.proofs.writing.assign.Statement.{statement}
+use Rattle.exchange.proofs.writing.assign.Tie as tie
+
+ready-requires : tie.Need-ready-requires
+ready-requires c κs = search needs
+
+enum-told : tie.Need-enum-told
+enum-told c = search needs
+
+entries-in-requires : tie.Need-entries-in-requires
+entries-in-requires c κs = search needs
+
+enum-told-2 : tie.Need-enum-told-2
+enum-told-2 c = search needs
+
+give-addresses-requires : tie.Need-give-addresses-requires
+give-addresses-requires c κs = Write.ready-room _ _ (sym (c .before .before .before .before .before .before .before .before .before .before .ready .ensures) ∙ c .before .before .before .before .before .before .before .before .enum-told .given .1)
+
+enum-known-verdict : tie.Need-enum-known-verdict
+enum-known-verdict c = search needs
+
+enum-known-first : tie.Need-enum-known-first
+enum-known-first c = search needs
+
+same-length : tie.Need-same-length
+same-length c = search needs
+
+returns : tie.Need-returns
+returns c =
+    let a = c .before .before .before .before .before .before .before .before .before .before .before .before .before .before .before .before .before .args in
+    let p = entriesIn false (a .value .now) in
+    Write.assign-written (a .state .now) (a .value .now) (a .out .now) (sym (c .before .before .before .before .before .before .before .before .before .before .before .before .before .ready .ensures) ∙ c .before .before .before .before .before .before .before .before .before .before .before .enum-told .given .1)
+    (entries-says p (c .before .before .before .before .before .before .before .before .before .before .entries-in .ensures) (c .before .before .before .before .before .before .before .before .enum-told2 .given .1)) (entries-list p (c .before .before .before .before .before .before .before .before .before .before .entries-in .ensures) (c .before .before .before .before .before .before .before .before .enum-told2 .given .1)) (c .before .before .give-addresses .ensures)
+
+returns-2 : tie.Need-returns-2
+returns-2 c =
+    let p = entriesIn false (c .before .before .before .before .before .before .before .before .before .before .args .value .now) in
+    Write.gives-stopped (Write.ready-says _ _ _ (sym (c .before .before .before .before .before .before .ready .ensures) ∙ c .before .before .before .before .enum-told .given .1) ∙ entries-says p (c .before .before .before .entries-in .ensures) (c .before .verdict .given .1))
+
+returns-3 : tie.Need-returns-3
+returns-3 c = Write.gives-stopped (Write.ready-stops _ _ _ (sym (c .before .before .before .ready .ensures) ∙ c .before .first .given .1))
+
+pub assign-spec : {M : Type 1} → statement M
+assign-spec =
+    tie.close
+    (tie.spec
+    ready-requires
+    enum-told
+    entries-in-requires
+    enum-told-2
+    give-addresses-requires
+    enum-known-verdict
+    enum-known-first
+    same-length
+    returns
+    returns-2
+    returns-3)
