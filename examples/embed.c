@@ -1,5 +1,5 @@
 /*
- * A host in C: two ends of a tunnel, one packet sent short and received.
+ * A host in C: two ends of a tunnel, one packet sent short and received. Every call of the header is made.
  *
  *   rt staticlib tunnel_c
  *   cc -std=c99 -Wall -Wextra -Iinclude examples/embed.c target/staticlib/libtunnel_c.a -o target/embed-host && target/embed-host
@@ -67,6 +67,24 @@ int main(void)
     whapirohi_answer sent = whapirohi_send(&van, PACKET, sizeof PACKET, datagram, sizeof datagram);
     show("sent", sent, datagram);
     show("received", whapirohi_receive(&clinic, datagram, sent.length, packet, sizeof packet), packet);
+
+    /* The van asks for an address; the clinic is handed the entry: Request ID 1, 0.0.0.0/32. */
+    static uint64_t wish[WHAPIROHI_ADDRESS_WORDS];
+    wish[0] = wish[1] = 1;
+    wish[2] = 4 + 256 * 32;
+    whapirohi_answer asked = whapirohi_write_request(wish, stream, sizeof stream);
+    show("request", asked, stream);
+    whapirohi_capsule c = whapirohi_read_capsule(&clinic, stream, asked.length, 0, requested);
+    printf("requested: %llu, kind %llu, %llu entry, ID %llu\n", (unsigned long long)c.number, (unsigned long long)c.kind,
+           (unsigned long long)requested[0], (unsigned long long)requested[1]);
+
+    /* A datagram on the stream, the file of the plan, and a number by itself. */
+    show("datagram", whapirohi_write_datagram(datagram, sent.length, stream, sizeof stream), stream);
+    show("plan", whapirohi_write_plan(&van, stream, sizeof stream), stream);
+    whapirohi_answer number = whapirohi_write_number(15293, stream, sizeof stream);
+    show("number", number, stream);
+    whapirohi_number read = whapirohi_read_number(stream, number.length);
+    printf("read: %llu, %llu in %llu\n", (unsigned long long)read.number, (unsigned long long)read.value, (unsigned long long)read.size);
 
     /* A state that was written over is refused. */
     memset(&van.received_routes, 0xFF, sizeof van.received_routes);

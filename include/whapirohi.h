@@ -21,9 +21,19 @@ extern "C" {
  * 5 words a range (version + 256 * protocol; start, high and low half; end, high and low half). An IPv4 address stands in the low half.
  * Bits above those two bytes, and words past the count, mean nothing; they are 0 in a list that the box makes. */
 enum {
-    WHAPIROHI_ADDRESS_WORDS = 65,
-    WHAPIROHI_ROUTE_WORDS = 321,
-    WHAPIROHI_PLAN_WORDS = 1193
+    WHAPIROHI_MAX_ADDRESSES = 16,
+    WHAPIROHI_MAX_RANGES = 64,
+    WHAPIROHI_ADDRESS_WORDS = 1 + 4 * WHAPIROHI_MAX_ADDRESSES,
+    WHAPIROHI_ROUTE_WORDS = 1 + 5 * WHAPIROHI_MAX_RANGES
+};
+
+/* The limits of a plan, and its words: see the state below. */
+enum {
+    WHAPIROHI_MAX_TEMPLATES = 8,
+    WHAPIROHI_MAX_SEGMENTS = 8,
+    WHAPIROHI_STATIC_LIMIT = 128,
+    WHAPIROHI_TEMPLATE_WORDS = 5 + 2 * WHAPIROHI_MAX_SEGMENTS + WHAPIROHI_STATIC_LIMIT,
+    WHAPIROHI_PLAN_WORDS = 1 + WHAPIROHI_MAX_TEMPLATES * WHAPIROHI_TEMPLATE_WORDS
 };
 
 /* The least lent outputs. */
@@ -35,7 +45,8 @@ enum {
     WHAPIROHI_CAPSULE_ROOM = 4104
 };
 
-/* The plan in words: the count of templates, then 149 words a template: Context ID, count of segments, 1 with a checksum and 0 without,
+/* The state is one array of words in these parts, in this order.
+ * The plan in words: the count of templates, then 149 words a template: Context ID, count of segments, 1 with a checksum and 0 without,
  * field, start, 8 segments of two words (offset, length), and 128 words with a static byte each: that of position p of a packet is word p.
  * A third word that is neither breaks the plan's rules. Bits above a static byte, templates and segments past their counts, bytes outside all segments, and
  * field and start without a checksum mean nothing; they are 0 in a plan that the box reads. */
@@ -71,40 +82,32 @@ typedef struct whapirohi_capsule {
     uint64_t next;
 } whapirohi_capsule;
 
-/* ---- the calls as the library exports them: the state lent list by list */
+/* ---- the calls over the state. A call that looks at the lists looks at all of the state first: 9 where any part of it breaks its rules. */
 
 uint64_t whapirohi_state_size(void); /* sizeof (whapirohi_state) in bytes */
 
-void whapirohi_start_over(uint64_t *received_addresses, uint64_t *received_routes, uint64_t *given_addresses, uint64_t *given_routes,
-                          uint64_t *plan);
+/* No grants, no templates: every word 0. */
+void whapirohi_start(whapirohi_state *state);
 
-/* 20 to 25, or 0: then the plan is replaced. */
-uint64_t whapirohi_load_plan_over(const uint8_t *file, size_t length, uint64_t *plan);
+/* 20 to 25, or 0: then the plan is replaced. The lists, and what the plan was, are not looked at. */
+uint64_t whapirohi_load_plan(whapirohi_state *state, const uint8_t *file, size_t length);
 
-/* The file of a plan: 16, 25, 23. */
-whapirohi_answer whapirohi_write_plan_over(const uint64_t *plan, uint8_t *out, size_t room);
+/* The file of the plan: 16, 25, 23. The lists are not looked at. */
+whapirohi_answer whapirohi_write_plan(const whapirohi_state *state, uint8_t *out, size_t room);
 
-/* One capsule at a place: 9, 1 to 7. Type 1 or 3 replaces the received list; type 2 writes its entries to requested. */
-whapirohi_capsule whapirohi_read_capsule_over(uint64_t *received_addresses, uint64_t *received_routes, const uint64_t *given_addresses,
-                                              const uint64_t *given_routes, const uint8_t *bytes, size_t length, size_t at,
-                                              uint64_t *requested);
+/* One capsule at a place: 9, 1 to 7. Type 1 or 3 replaces the received list; type 2 writes its entries to requested, which has the words of a
+ * list of addresses. */
+whapirohi_capsule whapirohi_read_capsule(whapirohi_state *state, const uint8_t *bytes, size_t length, size_t at, uint64_t *requested);
 
 /* 16, 9, 3, 7; 16, 9, 4, 5, 7: on success the list becomes the given one. */
-whapirohi_answer whapirohi_write_assign_over(const uint64_t *received_addresses, const uint64_t *received_routes, uint64_t *given_addresses,
-                                             const uint64_t *given_routes, const uint64_t *list, uint8_t *out, size_t room);
-whapirohi_answer whapirohi_write_routes_over(const uint64_t *received_addresses, const uint64_t *received_routes,
-                                             const uint64_t *given_addresses, uint64_t *given_routes, const uint64_t *list, uint8_t *out,
-                                             size_t room);
+whapirohi_answer whapirohi_write_assign(whapirohi_state *state, const uint64_t *list, uint8_t *out, size_t room);
+whapirohi_answer whapirohi_write_routes(whapirohi_state *state, const uint64_t *list, uint8_t *out, size_t room);
 
 /* 16, 9, 15, 10, 11, 12 */
-whapirohi_answer whapirohi_send_over(const uint64_t *received_addresses, const uint64_t *received_routes, const uint64_t *given_addresses,
-                                     const uint64_t *given_routes, const uint64_t *plan, const uint8_t *packet, size_t length, uint8_t *out,
-                                     size_t room);
+whapirohi_answer whapirohi_send(const whapirohi_state *state, const uint8_t *packet, size_t length, uint8_t *out, size_t room);
 
 /* 16, 9, 14, 13, 14, 15, 10, 12 */
-whapirohi_answer whapirohi_receive_over(const uint64_t *received_addresses, const uint64_t *received_routes, const uint64_t *given_addresses,
-                                        const uint64_t *given_routes, const uint64_t *plan, const uint8_t *datagram, size_t length,
-                                        uint8_t *out, size_t room);
+whapirohi_answer whapirohi_receive(const whapirohi_state *state, const uint8_t *datagram, size_t length, uint8_t *out, size_t room);
 
 /* ---- the calls that need no state */
 
@@ -112,54 +115,6 @@ whapirohi_number whapirohi_read_number(const uint8_t *bytes, size_t length);    
 whapirohi_answer whapirohi_write_number(uint64_t value, uint8_t *out, size_t room);       /* 16, 3 */
 whapirohi_answer whapirohi_write_datagram(const uint8_t *value, size_t length, uint8_t *out, size_t room); /* 16, 2 */
 whapirohi_answer whapirohi_write_request(const uint64_t *list, uint8_t *out, size_t room); /* 16, 3, 6, 7 */
-
-/* ---- the calls over the whole state */
-
-static inline void whapirohi_start(whapirohi_state *s)
-{
-    whapirohi_start_over(s->received_addresses, s->received_routes, s->given_addresses, s->given_routes, s->plan);
-}
-
-static inline uint64_t whapirohi_load_plan(whapirohi_state *s, const uint8_t *file, size_t length)
-{
-    return whapirohi_load_plan_over(file, length, s->plan);
-}
-
-static inline whapirohi_answer whapirohi_write_plan(const whapirohi_state *s, uint8_t *out, size_t room)
-{
-    return whapirohi_write_plan_over(s->plan, out, room);
-}
-
-static inline whapirohi_capsule whapirohi_read_capsule(whapirohi_state *s, const uint8_t *bytes, size_t length, size_t at,
-                                                       uint64_t requested[WHAPIROHI_ADDRESS_WORDS])
-{
-    return whapirohi_read_capsule_over(s->received_addresses, s->received_routes, s->given_addresses, s->given_routes, bytes, length, at,
-                                       requested);
-}
-
-static inline whapirohi_answer whapirohi_write_assign(whapirohi_state *s, const uint64_t list[WHAPIROHI_ADDRESS_WORDS], uint8_t *out,
-                                                      size_t room)
-{
-    return whapirohi_write_assign_over(s->received_addresses, s->received_routes, s->given_addresses, s->given_routes, list, out, room);
-}
-
-static inline whapirohi_answer whapirohi_write_routes(whapirohi_state *s, const uint64_t list[WHAPIROHI_ROUTE_WORDS], uint8_t *out,
-                                                      size_t room)
-{
-    return whapirohi_write_routes_over(s->received_addresses, s->received_routes, s->given_addresses, s->given_routes, list, out, room);
-}
-
-static inline whapirohi_answer whapirohi_send(const whapirohi_state *s, const uint8_t *packet, size_t length, uint8_t *out, size_t room)
-{
-    return whapirohi_send_over(s->received_addresses, s->received_routes, s->given_addresses, s->given_routes, s->plan, packet, length, out,
-                               room);
-}
-
-static inline whapirohi_answer whapirohi_receive(const whapirohi_state *s, const uint8_t *datagram, size_t length, uint8_t *out, size_t room)
-{
-    return whapirohi_receive_over(s->received_addresses, s->received_routes, s->given_addresses, s->given_routes, s->plan, datagram, length,
-                                  out, room);
-}
 
 #ifdef __cplusplus
 }

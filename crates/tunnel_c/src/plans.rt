@@ -1,44 +1,34 @@
 // The lent plan loaded from its file, and its file written.
 use super::PlainAnswer;
 use super::plain;
-use answer::Verdict;
-use lent_plan::PLAN_WORDS;
-ghost use mathlib.Core.Path.{_≡_};
-ghost use lib.ListN.{length};
-ghost use Rattle.plan.specs.File.{planBytes};
-ghost use Rattle.plan.specs.Results.{readPlan};
-ghost use Rattle.plan.specs.Rules.{writeVerdict};
-ghost use Rattle.plan.specs.Shapes.{shapesOf};
-ghost use Rattle.lent_plan.specs.Lent.{lentPlan};
-ghost use Rattle.lent_plan.specs.Words.{wordsOf, loaded};
-ghost use Rattle.tunnel_c.specs.Plain.{PlainWrites, verdictNumber};
+use state::STATE_WORDS;
+use state::TABLE_AT;
+use table::TABLE_WORDS;
+ghost use Rattle.answer.specs.Number.{verdictNumber};
+ghost use Rattle.octets.specs.Parts.{part};
+ghost use Rattle.table.specs.Words.{tableWords};
+ghost use Rattle.state.specs.State.{tableAt};
+ghost use Rattle.state.specs.Loading.{LoadsPlan};
+ghost use Rattle.plan_write.specs.Writing.{WritesPlan};
+ghost use Rattle.tunnel_c.specs.Plain.{plainAnswer, Plainly};
 
-// A good plan file replaces the lent plan.
+// A good plan file replaces the templates.
 #[no_mangle]
-pub extern "C" fn whapirohi_load_plan_over(file: &[u8], plan: &mut [u64; PLAN_WORDS]) -> u64
-    ensures { λ r. ⌜ r ≡ verdictNumber (readPlan (now (file .entry)) .verdict) ⌝ }
-    ensures { λ _. ⌜ now (plan .exit) ≡ loaded (readPlan (now (file .entry)) .verdict) (wordsOf (readPlan (now (file .entry)) .plan)) (now (plan .entry)) ⌝ }
+pub extern "C" fn whapirohi_load_plan(state: &mut [u64; STATE_WORDS], file: &[u8]) -> u64
+    ensures { λ r. ⌜ Plainly verdictNumber (λ v. LoadsPlan (now (file .entry)) (now (state .entry)) v (now (state .exit))) r ⌝ }
 {
-    let verdict = lent_plan::read_plan(file, plan);
-    number_of(verdict)
+    let verdict = state::load_plan(state, file);
+    verdict.number() as u64
 }
 
-// 0 for `Go`.
-fn number_of(verdict: Verdict) -> u64
-    ensures { λ r. ⌜ r ≡ verdictNumber verdict ⌝ }
-{
-    match verdict {
-        Verdict::Go => 0,
-        Verdict::Stop(why) => why.number() as u64,
-    }
-}
-
-// The file of the lent plan.
+// The file of the templates.
 #[no_mangle]
-pub extern "C" fn whapirohi_write_plan_over(plan: &[u64; PLAN_WORDS], out: &mut [u8]) -> PlainAnswer
-    ensures { λ r. ⌜ PlainWrites (writeVerdict (lentPlan (now (plan .entry))) (length (now (out .entry)))) (planBytes (shapesOf (lentPlan (now (plan .entry))))) (now (out .entry)) r (now (out .exit)) ⌝ }
+pub extern "C" fn whapirohi_write_plan(state: &[u64; STATE_WORDS], out: &mut [u8]) -> PlainAnswer
+    ensures { λ r. ⌜ Plainly plainAnswer (λ a. WritesPlan (part (now (state .entry)) tableAt tableWords) (now (out .entry)) a (now (out .exit))) r ⌝ }
 {
-    let by_value = lent_plan::plan_of(plan);
-    let answer = plan_write::write_plan(by_value, out);
+    let all = &state[..];
+    let mut words = [0u64; TABLE_WORDS];
+    octets::copy_words(&all[TABLE_AT..STATE_WORDS], &mut words);
+    let answer = plan_write::write_plan(&words, out);
     plain(answer)
 }

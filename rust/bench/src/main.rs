@@ -190,13 +190,14 @@ fn capsule_rows(lists: &str, held: &Grants) {
         // Each reading starts from the lists that the one before left: the first replaces them, then they are as long as the capsule's.
         let mut state: State = state_of(held, &Plan::default());
         let mut grants = *held;
+        let plan = Plan::default();
         let mut requested = [0; ADDRESS_WORDS];
         let times = take_turns(
             || {
                 let read = Proved.read_capsule(black_box(&mut state), black_box(&bytes), 0, black_box(&mut requested));
                 read.next as usize
             },
-            || black_box(&mut grants).read_capsule(black_box(&bytes), 0).map_or(0, |(_, next)| next),
+            || black_box(&mut grants).read_capsule(black_box(&plan), black_box(&bytes), 0).map_or(0, |(_, next)| next),
         );
         assert_eq!(state, state_of(&grants, &Plan::default()));
         row(name, bytes.len(), "", lists, times);

@@ -4,7 +4,7 @@ use crate::capsule::{self, read_assign, read_request, read_routes, Frame, CAPSUL
 use crate::capsule::{ADDRESS_ASSIGN, ADDRESS_REQUEST, DATAGRAM, ROUTE_ADVERTISEMENT};
 use crate::list::{assign_fault, routes_fault};
 use crate::packet::Header;
-use crate::{AddressList, Refusal, RouteList};
+use crate::{AddressList, Plan, Refusal, RouteList};
 
 /// The lists received from the other end and those given to it.
 #[derive(Clone, Copy, Debug, Default, PartialEq, Eq)]
@@ -60,9 +60,10 @@ impl Grants {
             || reply(&self.received_addresses, &self.received_routes, packet)
     }
 
-    /// One capsule at a place, and where the next one starts; a list that was assigned or advertised replaces the received one.
-    pub fn read_capsule(&mut self, bytes: &[u8], at: usize) -> Result<(Event, usize), Refusal> {
-        if !self.sound() {
+    /// One capsule at a place, and where the next one starts; a list that was assigned or advertised replaces the received one. A plan that
+    /// breaks its rules is a broken state, as lists are.
+    pub fn read_capsule(&mut self, plan: &Plan, bytes: &[u8], at: usize) -> Result<(Event, usize), Refusal> {
+        if !(self.sound() && plan.sound()) {
             return Err(Refusal::BrokenState);
         }
         let frame = Frame::read(bytes, at)?;
@@ -83,26 +84,26 @@ impl Grants {
     }
 
     /// An ADDRESS_ASSIGN capsule; its list becomes the given one.
-    pub fn write_assign(&mut self, list: &AddressList, out: &mut [u8]) -> Result<usize, Refusal> {
-        self.ready(out)?;
+    pub fn write_assign(&mut self, plan: &Plan, list: &AddressList, out: &mut [u8]) -> Result<usize, Refusal> {
+        self.ready(plan, out)?;
         let length = capsule::write_assign(list, out)?;
         self.given_addresses = *list;
         Ok(length)
     }
 
     /// A ROUTE_ADVERTISEMENT capsule; its list becomes the given one.
-    pub fn write_routes(&mut self, list: &RouteList, out: &mut [u8]) -> Result<usize, Refusal> {
-        self.ready(out)?;
+    pub fn write_routes(&mut self, plan: &Plan, list: &RouteList, out: &mut [u8]) -> Result<usize, Refusal> {
+        self.ready(plan, out)?;
         let length = capsule::write_routes(list, out)?;
         self.given_routes = *list;
         Ok(length)
     }
 
-    fn ready(&self, out: &[u8]) -> Result<(), Refusal> {
+    fn ready(&self, plan: &Plan, out: &[u8]) -> Result<(), Refusal> {
         if out.len() < CAPSULE_ROOM {
             return Err(Refusal::NoRoom);
         }
-        if !self.sound() {
+        if !(self.sound() && plan.sound()) {
             return Err(Refusal::BrokenState);
         }
         Ok(())

@@ -75,12 +75,12 @@ fn numbers_of_rfc_9000() {
 #[test]
 fn addresses_assigned() {
     let mut held = Grants::default();
-    let read = held.read_capsule(&hex("01 07 00 04 C0 00 02 03 20"), 0);
+    let read = held.read_capsule(&Plan::default(), &hex("01 07 00 04 C0 00 02 03 20"), 0);
     assert_eq!(read.unwrap().1, 9);
     assert_eq!(held.received_addresses, list(&[entry("192.0.2.3", 32)]));
-    assert_eq!(held.read_capsule(&hex("02 00"), 0), Err(Refusal::BadRequestId));
+    assert_eq!(held.read_capsule(&Plan::default(), &hex("02 00"), 0), Err(Refusal::BadRequestId));
     assert_eq!(held.received_addresses, list(&[entry("192.0.2.3", 32)]));
-    assert_eq!(held.read_capsule(&hex("01 00"), 0).unwrap().1, 2);
+    assert_eq!(held.read_capsule(&Plan::default(), &hex("01 00"), 0).unwrap().1, 2);
     assert_eq!(held, Grants::default());
 }
 
@@ -93,7 +93,7 @@ fn bits_beyond_the_prefix() {
 #[test]
 fn routes_advertised() {
     let mut held = Grants::default();
-    assert!(held.read_capsule(&hex("03 0A 04 C6 33 64 02 C6 33 64 02 11"), 0).is_ok());
+    assert!(held.read_capsule(&Plan::default(), &hex("03 0A 04 C6 33 64 02 C6 33 64 02 11"), 0).is_ok());
     assert_eq!(held.received_routes, list(&[range("198.51.100.2", "198.51.100.2", 17)]));
 }
 
@@ -273,7 +273,7 @@ fn broken_state_is_9() {
     assert_eq!(send(&broken, &plan, &hex(PACKET), &mut [0; 1508]), Err(Refusal::BrokenState));
     assert_eq!(send(&broken, &plan, &hex(PACKET), &mut [0; 1507]), Err(Refusal::NoRoom));
     assert_eq!(receive(&broken, &plan, &[], &mut [0; 1500]), Err(Refusal::BrokenState));
-    assert_eq!(broken.read_capsule(&[], 0), Err(Refusal::BrokenState));
-    assert_eq!(broken.write_assign(&list(&[]), &mut [0; 4104]), Err(Refusal::BrokenState));
-    assert_eq!(broken.write_assign(&list(&[]), &mut [0; 4103]), Err(Refusal::NoRoom));
+    assert_eq!(broken.read_capsule(&Plan::default(), &[], 0), Err(Refusal::BrokenState));
+    assert_eq!(broken.write_assign(&Plan::default(), &list(&[]), &mut [0; 4104]), Err(Refusal::BrokenState));
+    assert_eq!(broken.write_assign(&Plan::default(), &list(&[]), &mut [0; 4103]), Err(Refusal::NoRoom));
 }

@@ -31,6 +31,8 @@ pub const FAMILIES: &[(&str, Family, u64)] = &[
 
 /// What a run must have come by, beside every answer.
 pub const OCCASIONS: &[&str] = &[
+    "capsule read under a broken plan",
+    "received by an end with other words of the same meaning",
     "sent short, IPv4",
     "sent short, IPv6",
     "sent short, IPv4 with options",
@@ -87,14 +89,19 @@ fn numbers(run: &mut Run, random: &mut Random, cases: u64) {
     }
 }
 
-/// A state of sound lists, littered now and then, damaged seldom.
+/// A state of sound lists and a sound plan, littered now and then, damaged seldom.
 fn lists_state(random: &mut Random) -> State {
-    let mut state = state_of(&sound_grants(random), &Plan::default());
+    let plan = if random.once_in(3) { sound_plan(random) } else { Plan::default() };
+    let mut state = state_of(&sound_grants(random), &plan);
     if random.once_in(3) {
         litter_lists(random, &mut state);
+        litter_plan(random, &mut state.plan);
     }
     if random.once_in(30) {
         damage_lists(random, &mut state);
+    }
+    if random.once_in(30) {
+        damage_plan(random, &mut state.plan);
     }
     state
 }
@@ -109,6 +116,9 @@ fn capsules_read(run: &mut Run, random: &mut Random, cases: u64) {
     while run.cases < cases {
         let mut state = lists_state(random);
         let requested = requested(random);
+        if !plan_of(&state.plan).sound() {
+            run.occasion("capsule read under a broken plan");
+        }
         if random.once_in(80) {
             let bytes = capsule(random);
             let step = if bytes.len() > 200 { random.between(3, 40) } else { 1 };
@@ -306,7 +316,15 @@ fn packets(run: &mut Run, random: &mut Random, cases: u64) {
         }
         let other = State { plan: state.plan, ..lists_state(random) };
         let plan = plan_of(&state.plan);
-        let receivers = [mirrored(&state), state.clone(), other];
+        // The other end means the same, and holds other words where words mean nothing.
+        let mut home = mirrored(&state);
+        if random.once_in(2) {
+            litter_lists(random, &mut home);
+            litter_plan(random, &mut home.plan);
+            litter_static_bytes(random, &mut home.plan);
+            run.occasion("received by an end with other words of the same meaning");
+        }
+        let receivers = [home, state.clone(), other];
         for _ in 0..8 {
             let packet = variation(random, &scene);
             let out = random.output(SEND_ROOM);

@@ -99,7 +99,7 @@ impl Subject for Model {
 
     fn read_capsule(&self, state: &mut State, bytes: &[u8], at: usize, requested: &mut AddressWords) -> Capsule {
         let mut grants = grants_of(state);
-        let (event, next) = match grants.read_capsule(bytes, at) {
+        let (event, next) = match grants.read_capsule(&plan_of(&state.plan), bytes, at) {
             Ok(read) => read,
             Err(refusal) => {
                 return Capsule { number: refusal.number().into(), kind: 0, start: 0, length: 0, next: at as u64 };
@@ -126,7 +126,7 @@ impl Subject for Model {
 
     /// A list that was written is kept word for word as it was handed in.
     fn write_assign(&self, state: &mut State, list: &AddressWords, out: &mut [u8]) -> Answer {
-        let answer = answer(grants_of(state).write_assign(&address_list(list), out));
+        let answer = answer(grants_of(state).write_assign(&plan_of(&state.plan), &address_list(list), out));
         if answer.number == 0 {
             state.given_addresses = *list;
         }
@@ -134,7 +134,7 @@ impl Subject for Model {
     }
 
     fn write_routes(&self, state: &mut State, list: &RouteWords, out: &mut [u8]) -> Answer {
-        let answer = answer(grants_of(state).write_routes(&route_list(list), out));
+        let answer = answer(grants_of(state).write_routes(&plan_of(&state.plan), &route_list(list), out));
         if answer.number == 0 {
             state.given_routes = *list;
         }

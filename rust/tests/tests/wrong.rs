@@ -30,6 +30,7 @@ enum Slip {
     JunkKeptOutOfTheGivenList,
     LongNumberTaken,
     PlanKeptOnLoading,
+    PlanNotJudgedForCapsules,
 }
 
 struct Wrong(Slip);
@@ -71,7 +72,11 @@ impl Subject for Wrong {
 
     fn read_capsule(&self, state: &mut State, bytes: &[u8], at: usize, requested: &mut AddressWords) -> Capsule {
         let before = state.clone();
+        if self.0 == Slip::PlanNotJudgedForCapsules {
+            state.plan[0] = 0;
+        }
         let mut capsule = Model.read_capsule(state, bytes, at, requested);
+        state.plan = before.plan;
         match self.0 {
             Slip::ListsUntouched => *state = before,
             Slip::FirstEntryOnly if capsule.number == 0 && capsule.kind == 1 => {
@@ -196,6 +201,7 @@ fn wrong_subjects_are_found_out() {
         Slip::JunkKeptOutOfTheGivenList,
         Slip::LongNumberTaken,
         Slip::PlanKeptOnLoading,
+        Slip::PlanNotJudgedForCapsules,
     ] {
         assert!(faults(slip) > 0, "{slip:?} is not noticed");
     }

@@ -9,12 +9,21 @@ mod library;
 #[cfg(feature = "link")]
 pub use library::{read_number, state_size, write_datagram, write_number, write_request};
 
-/// Words of a list of addresses: the count, then 4 words for each of 16 entries.
-pub const ADDRESS_WORDS: usize = 65;
-/// Words of a list of ranges: the count, then 5 words for each of 64 ranges.
-pub const ROUTE_WORDS: usize = 321;
-/// Words of a plan: the count, then 149 words for each of 8 templates.
-pub const PLAN_WORDS: usize = 1193;
+/// The limits of lists and plans.
+pub const MAX_ADDRESSES: usize = 16;
+pub const MAX_RANGES: usize = 64;
+pub const MAX_TEMPLATES: usize = 8;
+pub const MAX_SEGMENTS: usize = 8;
+pub const STATIC_LIMIT: usize = 128;
+
+/// Words of a list of addresses: the count, then 4 words for each entry.
+pub const ADDRESS_WORDS: usize = 1 + 4 * MAX_ADDRESSES;
+/// Words of a list of ranges: the count, then 5 words for each range.
+pub const ROUTE_WORDS: usize = 1 + 5 * MAX_RANGES;
+/// Words of a template: a head of 5, 2 for each segment, 1 for each static byte.
+pub const TEMPLATE_WORDS: usize = 5 + 2 * MAX_SEGMENTS + STATIC_LIMIT;
+/// Words of a plan: the count, then those of each template.
+pub const PLAN_WORDS: usize = 1 + MAX_TEMPLATES * TEMPLATE_WORDS;
 
 /// The least lent outputs.
 pub const NUMBER_ROOM: usize = 8;
@@ -39,7 +48,6 @@ pub struct State {
 }
 
 const _: () = assert!(size_of::<State>() == 8 * (2 * ADDRESS_WORDS + 2 * ROUTE_WORDS + PLAN_WORDS));
-const _: () = assert!(size_of::<State>() == 15720);
 
 /// The answer of a call that writes: the number, and how many bytes stand at the front of the output (0 with a refusal).
 #[derive(Clone, Copy, Debug, PartialEq, Eq)]

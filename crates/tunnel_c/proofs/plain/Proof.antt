@@ -1,4 +1,4 @@
--- The number and the length are those of the answer.
+-- The number and the length of the answer. Assumes nothing.
 use Rattle.tunnel_c.proofs.PlainLaws.{answer-plain}
 use borrow.Author.Needs.{needs}
 use Rattle.tunnel_c.proofs.plain.Statement.{statement}

@@ -1,4 +1,4 @@
--- Each arm says what was read.
+-- Each arm says what was read. Assumes nothing.
 use Rattle.tunnel_c.proofs.PlainLaws.{number-plain}
 use borrow.Author.Needs.{needs}
 use Rattle.tunnel_c.proofs.whapirohi_read_number.Statement.{statement}
