@@ -1,24 +1,22 @@
 // The box as a filter: records on standard input, their answers on standard output (README, "The box as a filter").
-// The program only moves bytes: what a record answers comes from `lent_plan`, `records` and `tunnel`. The grants live across records by
-// value, the plan in words that are lent.
+// The program only moves bytes: what a record answers comes from `exchange`, `state` and `tunnel`. The state lives across records in
+// words that are lent.
 // Answers are gathered and written before each read, so that none waits for more input. It ends where the input does, or where the output
 // cannot be written.
 mod answers;
 mod incoming;
 mod outgoing;
 
-use answers::state_record;
-use answers::still_record;
-use grant::Grants;
+use answers::answer_record;
 use incoming::RECORD_HEAD;
 use incoming::fill;
 use incoming::keep;
 use incoming::record_size;
-use lent_plan::PLAN_WORDS;
 use outgoing::Output;
 use outgoing::flush;
 use outgoing::put_unknown;
 use outgoing::with_room;
+use state::STATE_WORDS;
 ghost use Prim.Native.Nat.{_≤_};
 ghost use lib.ListN.{length};
 ghost use Rattle.van_box.specs.Sizes.{inputRoom, answerRoom};
@@ -28,16 +26,14 @@ const INPUT: usize = 131072;
 
 const OUTPUT: usize = 65536;
 
-// The box between two reads: its grants, how many bytes of an unfinished record the input holds, and whether there is more to do.
+// The box between two reads: how many bytes of an unfinished record the input holds, and whether there is more to do.
 pub struct Between {
-    pub grants: Grants,
     pub held: usize,
     pub open: bool,
 }
 
-// The box after the records of some bytes: its grants, its output, and the place behind the last whole record.
+// The box after the records of some bytes: its output, and the place behind the last whole record.
 pub struct Answered {
-    pub grants: Grants,
     pub output: Output,
     pub at: usize,
 }
@@ -45,47 +41,39 @@ pub struct Answered {
 fn main() {
     let mut input = [0u8; INPUT];
     let mut out = [0u8; OUTPUT];
-    // All 0: no templates.
-    let mut plan = [0u64; PLAN_WORDS];
-    let mut now = start();
+    // All 0: no grants, no templates.
+    let mut state = [0u64; STATE_WORDS];
+    let mut now = Between {
+        held: 0,
+        open: true,
+    };
     // No run uses the turns up.
     let mut turns = u64::MAX;
     while turns > 0 {
         if !now.open {
             break;
         }
-        now = turn(now, &mut plan, &mut input, &mut out);
+        now = turn(now, &mut state, &mut input, &mut out);
         turns -= 1;
-    }
-}
-
-fn start() -> Between
-    ensures { λ r. ⌜ r .held ≤ 0 ⌝ }
-{
-    let grants = Grants::empty();
-    Between {
-        grants,
-        held: 0,
-        open: true,
     }
 }
 
 // One read and its answers.
 fn turn(
     before: Between,
-    plan: &mut [u64; PLAN_WORDS],
+    state: &mut [u64; STATE_WORDS],
     input: &mut [u8; INPUT],
     out: &mut [u8; OUTPUT],
 ) -> Between
     requires { ⌜ before .held ≤ inputRoom ⌝ }
     ensures { λ r. ⌜ r .held ≤ inputRoom ⌝ }
 {
-    answer_read(before, plan, input, out)
+    answer_read(before, state, input, out)
 }
 
 fn answer_read(
     before: Between,
-    plan: &mut [u64; PLAN_WORDS],
+    state: &mut [u64; STATE_WORDS],
     input: &mut [u8],
     out: &mut [u8],
 ) -> Between
@@ -94,23 +82,19 @@ fn answer_read(
     ensures { λ r. ⌜ r .held ≤ length (now (input .exit)) ⌝ }
 {
     let held = before.held;
-    let grants = before.grants;
     let end = fill(input, held);
     if end <= held {
         end_of_input(held, out);
         return Between {
-            grants,
             held: 0,
             open: false,
         };
     }
-    let after = answer_records(grants, plan, &input[..end], out);
+    let after = answer_records(state, &input[..end], out);
     let output = flush(after.output, out);
     let at = after.at;
     let left = keep(input, at, end);
-    let grants_after = after.grants;
     Between {
-        grants: grants_after,
         held: left,
         open: output.open,
     }
@@ -131,17 +115,11 @@ fn end_of_input(held: usize, out: &mut [u8])
 }
 
 // Answers every whole record of some bytes.
-fn answer_records(
-    grants: Grants,
-    plan: &mut [u64; PLAN_WORDS],
-    bytes: &[u8],
-    out: &mut [u8],
-) -> Answered
+fn answer_records(state: &mut [u64; STATE_WORDS], bytes: &[u8], out: &mut [u8]) -> Answered
     requires { ⌜ answerRoom ≤ length (now out) ⌝ }
     ensures { λ r. ⌜ r .at ≤ length (now (bytes .entry)) ⌝ }
     ensures { λ r. ⌜ r .output .used ≤ length (now (out .exit)) ⌝ }
 {
-    let mut grants_now = grants;
     let mut output = Output {
         used: 0,
         open: true,
@@ -156,18 +134,8 @@ fn answer_records(
         let start = at + RECORD_HEAD;
         let end = at + n;
         let room = with_room(output, out);
-        if answers::is_still(kind) {
-            output = still_record(grants_now, plan, kind, &bytes[start..end], out, room);
-        } else {
-            let after = state_record(grants_now, plan, kind, &bytes[start..end], out, room);
-            grants_now = after.grants;
-            output = after.output;
-        }
+        output = answer_record(state, kind, &bytes[start..end], out, room);
         at = end;
     }
-    Answered {
-        grants: grants_now,
-        output,
-        at,
-    }
+    Answered { output, at }
 }

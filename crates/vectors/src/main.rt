@@ -3,10 +3,8 @@
 mod packet; // packet.rt: sending and receiving
 mod plan_file; // plan_file.rt: plan files
 
-use answer::Answer;
-use answer::Refusal;
-use capsule::Outcome;
-use libc::STDOUT_FILENO;
+use answer::Verdict;
+use capsule::CapsuleRead;
 use varint::NumberRead;
 
 fn main() {
@@ -18,7 +16,7 @@ fn main() {
 
 // Each number is read, and its value written again: a longer form is accepted, and not made.
 fn numbers() {
-    text(b"numbers\n");
+    print::text(b"numbers\n");
     number(b"\xc2\x19\x7c\x5e\xff\x14\xe8\x8c");
     number(b"\x9d\x7f\x3e\x7d");
     number(b"\x7b\xbd");
@@ -27,46 +25,64 @@ fn numbers() {
     number(b"\xff\xff\xff\xff\xff\xff\xff\xff");
     number(b"\x9d\x7f\x3e");
     number(b"");
-    text(b"too large ");
+    print::text(b"too large ");
     written(4611686018427387904);
-    text(b"\n");
+    print::text(b"\n");
 }
 
 // The bytes, what they read as, and the value written.
 fn number(bytes: &[u8]) {
-    hex(bytes);
-    text(b" ");
+    print::hex(bytes);
+    print::text(b" ");
     let r = varint::read(bytes);
     match r {
         NumberRead::Whole { value, size } => {
             whole(value, size);
         }
         NumberRead::Cut => {
-            text(b"refused ");
-            decimal(r.number() as u64);
+            print::text(b"refused ");
+            print::decimal(r.number() as u64);
         }
     }
-    text(b"\n");
+    print::text(b"\n");
 }
 
 fn whole(value: u64, size: usize) {
-    decimal(value);
-    text(b" in ");
-    decimal(size as u64);
-    text(b" written ");
+    print::decimal(value);
+    print::text(b" in ");
+    print::decimal(size as u64);
+    print::text(b" written ");
     written(value);
 }
 
 // Each capsule is read from the front of a buffer.
 fn capsules() {
-    text(b"capsules\n");
+    print::text(b"capsules\n");
     addresses();
     ranges();
     requests();
     forms();
     rules();
-    text(b"cut ");
+    print::text(b"cut ");
     cuts(b"\x01\x07\x00\x04\xc0\x00\x02\x03\x20");
+    print::text(b"walk\n");
+    walk(
+        b"\x01\x07\x00\x04\xc0\x00\x02\x03\x20\x52\x34\x03\x01\x02\x03\x00\x02\xaa\xbb\x03\x00\x02",
+    );
+}
+
+// Each capsule of a buffer in turn, up to the first refusal.
+fn walk(bytes: &[u8]) {
+    let mut at: usize = 0;
+    while at < bytes.len() {
+        let r = walker::read_at(bytes, at);
+        read_as(r, bytes);
+        print::text(b"\n");
+        if r.next <= at {
+            break;
+        }
+        at = r.next;
+    }
 }
 
 fn addresses() {
@@ -144,62 +160,81 @@ fn rules() {
 
 // What a buffer reads as: its kind, the elements of its list, and where reading goes on; or the refusal.
 fn capsule(name: &[u8], bytes: &[u8]) {
-    text(name);
-    text(b": ");
+    print::text(name);
+    print::text(b": ");
     let r = capsule::read(bytes, 0);
-    let addresses = r.addresses;
-    let routes = r.routes;
-    let found = r.outcome;
-    outcome(found, addresses.words[0], routes.words[0]);
-    text(b"\n");
+    read_as(r, bytes);
+    print::text(b"\n");
 }
 
-fn outcome(found: Outcome, addresses: u64, routes: u64) {
-    match found {
-        Outcome::Datagram {
-            start,
-            length,
-            next,
-        } => {
-            datagram(start, length, next);
+fn read_as(r: CapsuleRead, bytes: &[u8]) {
+    let verdict = r.verdict;
+    match verdict {
+        Verdict::Go => {
+            found(r, bytes);
         }
-        Outcome::Assigned { next } => {
-            elements(b"assigned ", addresses, next);
-        }
-        Outcome::Requested { next } => {
-            elements(b"requested ", addresses, next);
-        }
-        Outcome::Advertised { next } => {
-            elements(b"advertised ", routes, next);
-        }
-        Outcome::Skipped { next } => {
-            skipped(next);
-        }
-        Outcome::Refused(why) => {
-            refused(why);
+        Verdict::Stop(why) => {
+            print::refused(why);
         }
     }
 }
 
+fn found(r: CapsuleRead, bytes: &[u8]) {
+    let start = r.start;
+    let next = r.next;
+    if r.kind == 0 {
+        datagram(start, r.length, next);
+        return;
+    }
+    if r.kind == 4 {
+        skipped(next);
+        return;
+    }
+    if start <= next && next <= bytes.len() {
+        listed(r.kind, &bytes[start..next], next);
+    }
+}
+
+// The list of a value.
+fn listed(kind: u64, value: &[u8], next: usize) {
+    if kind == 1 {
+        elements(b"assigned ", entries(value, false), next);
+        return;
+    }
+    if kind == 2 {
+        elements(b"requested ", entries(value, true), next);
+        return;
+    }
+    let read = capsule::ranges_in(value);
+    let list = read.list;
+    elements(b"advertised ", list.words[0], next);
+}
+
+fn entries(value: &[u8], request: bool) -> u64 {
+    let read = capsule::entries_in(value, request);
+    let list = read.list;
+    list.words[0]
+}
+
 fn datagram(start: usize, length: usize, next: usize) {
-    text(b"datagram at ");
-    decimal(start as u64);
-    text(b" of ");
-    decimal(length as u64);
-    text(b" next ");
-    decimal(next as u64);
+    print::text(b"datagram at ");
+    print::decimal(start as u64);
+    print::text(b" of ");
+    print::decimal(length as u64);
+    print::text(b" next ");
+    print::decimal(next as u64);
 }
 
 fn elements(kind: &[u8], count: u64, next: usize) {
-    text(kind);
-    decimal(count);
-    text(b" next ");
-    decimal(next as u64);
+    print::text(kind);
+    print::decimal(count);
+    print::text(b" next ");
+    print::decimal(next as u64);
 }
 
 fn skipped(next: usize) {
-    text(b"skipped next ");
-    decimal(next as u64);
+    print::text(b"skipped next ");
+    print::decimal(next as u64);
 }
 
 // The number of each proper front of a capsule.
@@ -209,57 +244,16 @@ fn cuts(bytes: &[u8]) {
         cut(&bytes[..i]);
         i += 1;
     }
-    text(b"\n");
+    print::text(b"\n");
 }
 
 fn cut(bytes: &[u8]) {
     let r = capsule::read(bytes, 0);
-    let outcome = r.outcome;
-    decimal(outcome.number() as u64);
+    print::decimal(r.number() as u64);
 }
 
 fn written(value: u64) {
     let mut out = [0u8; 8];
     let a = varint::write(value, &mut out);
-    front_or_refused(a, &out);
-}
-
-// The bytes that were written, or the refusal.
-fn front_or_refused(a: Answer, out: &[u8]) {
-    match a {
-        Answer::Done(n) => {
-            hex_front(out, n);
-        }
-        Answer::Refused(why) => {
-            refused(why);
-        }
-    }
-}
-
-// The first n bytes.
-fn hex_front(bytes: &[u8], n: usize) {
-    if n <= bytes.len() {
-        hex(&bytes[..n]);
-    }
-}
-
-fn refused(why: Refusal) {
-    text(b"refused ");
-    decimal(why.number() as u64);
-}
-
-fn text(bytes: &[u8]) {
-    io::write_all(STDOUT_FILENO, bytes);
-}
-
-fn decimal(n: u64) {
-    io::print_decimal(STDOUT_FILENO, n);
-}
-
-fn hex(bytes: &[u8]) {
-    let mut i = 0;
-    while i < bytes.len() {
-        io::print_hex(STDOUT_FILENO, bytes[i] as u64, 2);
-        i += 1;
-    }
+    print::written(a, &out);
 }

@@ -1,9 +1,9 @@
 // Plan files: read, and those that are good written again.
 use answer::Verdict;
-use plan::Plan;
+use table::TABLE_WORDS;
 
 pub(crate) fn plans() {
-    crate::text(b"plans\n");
+    print::text(b"plans\n");
     fronts();
     contexts();
     segments();
@@ -95,26 +95,25 @@ fn checksums() {
 
 // How many templates a file holds, and the file that is written of them; or the refusal.
 fn plan_file(name: &[u8], bytes: &[u8]) {
-    crate::text(name);
-    crate::text(b": ");
-    let r = plan::read_plan(bytes);
-    let verdict = r.verdict;
+    print::text(name);
+    print::text(b": ");
+    let mut words = [0u64; TABLE_WORDS];
+    let verdict = table::read_plan(bytes, &mut words);
     match verdict {
         Verdict::Go => {
-            let found = r.plan;
-            crate::decimal(found.count as u64);
-            written(found);
+            print::decimal(words[0]);
+            written(&words);
         }
         Verdict::Stop(why) => {
-            crate::refused(why);
+            print::refused(why);
         }
     }
-    crate::text(b"\n");
+    print::text(b"\n");
 }
 
-fn written(found: Plan) {
+fn written(words: &[u64; TABLE_WORDS]) {
     let mut out = [0u8; 1400];
-    let a = plan_write::write_plan(found, &mut out);
-    crate::text(b" written ");
-    crate::front_or_refused(a, &out);
+    let a = plan_write::write_plan(words, &mut out);
+    print::text(b" written ");
+    print::written(a, &out);
 }

@@ -6,13 +6,10 @@ use Rattle.van_box.proofs.main.Statement.{statement}
 use Rattle.van_box.proofs.main.Tie as tie
 
 abbrev Inv-loop : tie.InvT-loop
-Inv-loop input₀ out₀ plan₀ now₀ turns₀ input out plan now turns = now .held ≤ inputRoom
+Inv-loop input₀ out₀ state₀ now₀ turns₀ input out state now turns = now .held ≤ inputRoom
 
 abbrev μ-loop : tie.MeasureT-loop
-μ-loop input₀ out₀ plan₀ now₀ turns₀ input out plan now turns = turns
-
-start-requires : tie.Need-start-requires Inv-loop μ-loop
-start-requires c κs = search needs
+μ-loop input₀ out₀ state₀ now₀ turns₀ input out state now turns = turns
 
 loop-holds : tie.Need-loop-holds Inv-loop μ-loop
 loop-holds c = search needs
@@ -41,7 +38,6 @@ main-spec =
     (tie.spec
     Inv-loop
     μ-loop
-    start-requires
     loop-holds
     turn-requires
     sub-turns

@@ -22,9 +22,9 @@ next-capsule-requires c κs = search needs
 
 put-answer-requires : tie.Need-put-answer-requires
 put-answer-requires c κs =
-    let s = c .before .before .before .before .before .before .before .before in
+    let s = c .before .before .before .before .before .before .before .before .before in
     let w = c .before .before .before .next-capsule in
-    answer-room (s .args .out .now) _ (omega (arith, s .pre)) (w .ensures .hands) (w .kept .1 .1 .1 .0)
+    answer-room (s .args .out .now) _ (omega (arith, s .pre)) (w .ensures .writes) (w .kept .1 .1 .1 .0)
 
 same-length : tie.Need-same-length
 same-length c = search needs

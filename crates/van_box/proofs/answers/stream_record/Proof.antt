@@ -9,10 +9,10 @@ use Rattle.van_box.proofs.answers.stream_record.Statement.{statement}
 use Rattle.van_box.proofs.answers.stream_record.Tie as tie
 
 abbrev Inv-loop : tie.InvT-loop
-Inv-loop bytes out₀ step₀ at₀ next₀ out step at next = (step .output .used ≤ length out) × (answerRoom ≤ length out) × (length out ≡ length out₀)
+Inv-loop state₀ bytes out₀ step₀ at₀ next₀ state out step at next = (step .output .used ≤ length out) × (answerRoom ≤ length out) × (length out ≡ length out₀)
 
 abbrev μ-loop : tie.MeasureT-loop
-μ-loop bytes out₀ step₀ at₀ next₀ out step at next = length bytes - at
+μ-loop state₀ bytes out₀ step₀ at₀ next₀ state out step at next = length bytes - at
 
 capsule-record-requires : tie.Need-capsule-record-requires Inv-loop μ-loop
 capsule-record-requires c κs = search needs
@@ -40,12 +40,6 @@ same-length c = search needs
 returns : tie.Need-returns Inv-loop μ-loop
 returns c = search needs
 
-same-length-2 : tie.Need-same-length-2 Inv-loop μ-loop
-same-length-2 c = search needs
-
-returns-2 : tie.Need-returns-2 Inv-loop μ-loop
-returns-2 c = search needs
-
 pub stream-record-spec : {M : Type 1} → statement M
 stream-record-spec =
     tie.close
@@ -59,6 +53,4 @@ stream-record-spec =
     loop-less
     loop-again
     same-length
-    returns
-    same-length-2
-    returns-2)
+    returns)

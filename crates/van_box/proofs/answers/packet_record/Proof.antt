@@ -2,8 +2,8 @@
 use native.Mathlib.Omega.{arith}
 use Rattle.van_box.proofs.Rooms.{answer-room}
 use borrow.Author.Needs.{needs}
-use Rattle.van_box.proofs.answers.still_record.Statement.{statement}
-use Rattle.van_box.proofs.answers.still_record.Tie as tie
+use Rattle.van_box.proofs.answers.packet_record.Statement.{statement}
+use Rattle.van_box.proofs.answers.packet_record.Tie as tie
 
 add-start : tie.Need-add-start
 add-start c = search needs
@@ -24,7 +24,7 @@ put-answer-requires : tie.Need-put-answer-requires
 put-answer-requires c κs =
     let s = c .before .before .before .before .before .before .before .before .before in
     let w = c .before .before .before .send in
-    answer-room (s .args .out .now) _ (omega (arith, s .pre)) (w .ensures) (w .kept .1 .1 .1 .0)
+    answer-room (s .args .out .now) _ (omega (arith, s .pre)) (w .ensures .writes) (w .kept .1 .1 .0)
 
 same-length : tie.Need-same-length
 same-length c = search needs
@@ -46,9 +46,9 @@ receive-requires c κs = search needs
 
 put-answer-requires-2 : tie.Need-put-answer-requires-2
 put-answer-requires-2 c κs =
-    let s = c .before .before .before .before .before .before .before .before .before .before in
+    let s = c .before .before .before .before .before .before .before .before .before in
     let w = c .before .before .before .receive in
-    answer-room (s .args .out .now) _ (omega (arith, s .pre)) (w .ensures) (w .kept .1 .1 .1 .0)
+    answer-room (s .args .out .now) _ (omega (arith, s .pre)) (w .ensures .writes) (w .kept .1 .1 .0)
 
 same-length-2 : tie.Need-same-length-2
 same-length-2 c = search needs
@@ -56,32 +56,8 @@ same-length-2 c = search needs
 returns-2 : tie.Need-returns-2
 returns-2 c = search needs
 
-sub-request : tie.Need-sub-request
-sub-request c = search needs
-
-part-request-start : tie.Need-part-request-start
-part-request-start c = search needs
-
-part-request-end : tie.Need-part-request-end
-part-request-end c = search needs
-
-request-requires : tie.Need-request-requires
-request-requires c κs = search needs
-
-put-answer-requires-3 : tie.Need-put-answer-requires-3
-put-answer-requires-3 c κs =
-    let s = c .before .before .before .before .before .before .before .before .before .before in
-    let w = c .before .before .before .request in
-    answer-room (s .args .out .now) _ (omega (arith, s .pre)) (w .ensures) (w .kept .1 .0)
-
-same-length-3 : tie.Need-same-length-3
-same-length-3 c = search needs
-
-returns-3 : tie.Need-returns-3
-returns-3 c = search needs
-
-pub still-record-spec : {M : Type 1} → statement M
-still-record-spec =
+pub packet-record-spec : {M : Type 1} → statement M
+packet-record-spec =
     tie.close
     (tie.spec
     add-start
@@ -98,11 +74,4 @@ still-record-spec =
     receive-requires
     put-answer-requires-2
     same-length-2
-    returns-2
-    sub-request
-    part-request-start
-    part-request-end
-    request-requires
-    put-answer-requires-3
-    same-length-3
-    returns-3)
+    returns-2)

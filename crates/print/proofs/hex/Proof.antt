@@ -1,10 +1,10 @@
--- `vectors::hex` is safe and ends: the place is within the bytes. Assumes nothing.
+-- `print::hex` is safe and ends: the place is within the bytes. Assumes nothing.
 use Prim.Native.Nat.{_≤_, _-_}
 use native.Mathlib.Omega.{arith}
 use borrow.Author.Needs.{needs}
 use lib.ListN.{length}
-use Rattle.vectors.proofs.hex.Statement.{statement}
-use Rattle.vectors.proofs.hex.Tie as tie
+use Rattle.print.proofs.hex.Statement.{statement}
+use Rattle.print.proofs.hex.Tie as tie
 
 abbrev Inv-loop : tie.InvT-loop
 Inv-loop bytes i₀ i = i ≤ length bytes

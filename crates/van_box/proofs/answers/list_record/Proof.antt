@@ -2,17 +2,8 @@
 use native.Mathlib.Omega.{arith}
 use Rattle.van_box.proofs.Rooms.{answer-room}
 use borrow.Author.Needs.{needs}
-use Rattle.van_box.proofs.answers.grants_record.Statement.{statement}
-use Rattle.van_box.proofs.answers.grants_record.Tie as tie
-
-stream-record-requires : tie.Need-stream-record-requires
-stream-record-requires c κs = search needs
-
-same-length : tie.Need-same-length
-same-length c = search needs
-
-returns : tie.Need-returns
-returns c = search needs
+use Rattle.van_box.proofs.answers.list_record.Statement.{statement}
+use Rattle.van_box.proofs.answers.list_record.Tie as tie
 
 add-start : tie.Need-add-start
 add-start c = search needs
@@ -35,11 +26,11 @@ put-answer-requires c κs =
     let w = c .before .before .before .assign in
     answer-room (s .args .out .now) _ (omega (arith, s .pre)) (w .ensures .writes) (w .kept .1 .1 .0)
 
-same-length-2 : tie.Need-same-length-2
-same-length-2 c = search needs
+same-length : tie.Need-same-length
+same-length c = search needs
 
-returns-2 : tie.Need-returns-2
-returns-2 c = search needs
+returns : tie.Need-returns
+returns c = search needs
 
 sub-advertise : tie.Need-sub-advertise
 sub-advertise c = search needs
@@ -55,9 +46,33 @@ advertise-requires c κs = search needs
 
 put-answer-requires-2 : tie.Need-put-answer-requires-2
 put-answer-requires-2 c κs =
-    let s = c .before .before .before .before .before .before .before .before .before .before in
+    let s = c .before .before .before .before .before .before .before .before .before .before .before in
     let w = c .before .before .before .advertise in
     answer-room (s .args .out .now) _ (omega (arith, s .pre)) (w .ensures .writes) (w .kept .1 .1 .0)
+
+same-length-2 : tie.Need-same-length-2
+same-length-2 c = search needs
+
+returns-2 : tie.Need-returns-2
+returns-2 c = search needs
+
+sub-request : tie.Need-sub-request
+sub-request c = search needs
+
+part-request-start : tie.Need-part-request-start
+part-request-start c = search needs
+
+part-request-end : tie.Need-part-request-end
+part-request-end c = search needs
+
+request-requires : tie.Need-request-requires
+request-requires c κs = search needs
+
+put-answer-requires-3 : tie.Need-put-answer-requires-3
+put-answer-requires-3 c κs =
+    let s = c .before .before .before .before .before .before .before .before .before .before in
+    let w = c .before .before .before .request in
+    answer-room (s .args .out .now) _ (omega (arith, s .pre)) (w .ensures) (w .kept .1 .0)
 
 same-length-3 : tie.Need-same-length-3
 same-length-3 c = search needs
@@ -65,25 +80,29 @@ same-length-3 c = search needs
 returns-3 : tie.Need-returns-3
 returns-3 c = search needs
 
-pub grants-record-spec : {M : Type 1} → statement M
-grants-record-spec =
+pub list-record-spec : {M : Type 1} → statement M
+list-record-spec =
     tie.close
     (tie.spec
-    stream-record-requires
-    same-length
-    returns
     add-start
     sub-assign
     part-assign-start
     part-assign-end
     assign-requires
     put-answer-requires
-    same-length-2
-    returns-2
+    same-length
+    returns
     sub-advertise
     part-advertise-start
     part-advertise-end
     advertise-requires
     put-answer-requires-2
+    same-length-2
+    returns-2
+    sub-request
+    part-request-start
+    part-request-end
+    request-requires
+    put-answer-requires-3
     same-length-3
     returns-3)
