@@ -1,0 +1,72 @@
+-- What a refusal leaves, from the records that the contracts of the entry points are. Assumes nothing.
+use Prim.Native.Nat.{ℕ}
+use mathlib.Core.Path.{_≡_, refl, sym, ap, _∙_}
+use mathlib.Core.List.{List, _++_}
+use native.Mathlib.Omega.{arith}
+use lib.ListN.{length}
+use Rattle.answer.specs.declared.Refusal.{Refusal}
+use Rattle.answer.specs.declared.Answer.{Answer}
+use Rattle.answer.specs.declared.Answer.the-variants.{Refused}
+use Rattle.answer.specs.declared.Verdict.{Verdict}
+use Rattle.answer.specs.declared.Verdict.the-variants.{Go, Stop}
+use Rattle.answer.specs.Number.{answerNumber, answerLength}
+use Rattle.answer.specs.Verdict.{Writes, answerOf, outputOf, kept}
+use Rattle.capsule.specs.Capsules.{Capsule, capsule, readCapsule}
+use Rattle.capsule.specs.Results.{resultAt}
+use Rattle.capsule.proofs.ReadFacts.{read-facts}
+use Rattle.capsule.proofs.ReadLaws.{read-size}
+use Rattle.table.specs.Templates.{Template}
+use Rattle.table.specs.File.{Step, stop, found, planIn}
+use Rattle.table.specs.Load.{verdictIn, loaded, planRead, Loads}
+use Rattle.state.specs.Loading.{withTemplates, LoadsPlan}
+use Rattle.exchange.specs.declared.handing.CapsuleAnswered.{CapsuleAnswered}
+use Rattle.exchange.specs.Reading.{readingIn, received}
+use Rattle.exchange.specs.Handing.{handed, handingVerdict, HandsBack}
+use Rattle.tunnel_c.specs.declared.PlainAnswer.{PlainAnswer}
+use Rattle.tunnel_c.specs.Plain.{plainAnswer, Plainly}
+use Rattle.ends.specs.Outcomes.{Leaves, Consumed}
+
+pub writes-leaves : (v : Verdict) {m before after : List ℕ} {r : Answer} → Writes v m before r after → Leaves r before after
+writes-leaves Go w h = absurd (h (ap answerNumber (w .answer)))
+writes-leaves (Stop why) w h = (ap answerLength (w .answer), w .output)
+
+pub plainly-leaves : {P : Answer → Type 0} {before after : List ℕ} {r : PlainAnswer} → ((a : Answer) → P a → Leaves a before after)
+    → Plainly plainAnswer P r → (r .number ≡ 0 → ⊥) → (r .length ≡ 0) × (after ≡ before)
+plainly-leaves law q h =
+    let l = law (q .answer) (q .promised) (λ z. h (ap (λ (x : PlainAnswer). x .number) (q .shown) ∙ z)) in
+    (ap (λ (x : PlainAnswer). x .length) (q .shown) ∙ l .0, l .1)
+
+-- a file that is refused gives no templates
+file-leaves : {A : Type 0} (put : Step (List Template) → A) (before : A) → ((r : Refusal) → put (stop r) ≡ before)
+    → (x : Step (List Template)) (why : Refusal) → verdictIn x ≡ Stop why → put x ≡ before
+file-leaves put before left (stop r) why e = left r
+file-leaves put before left (found ts rest) why e = absurd (let z : _≡_ {A = ℕ} 0 1 = cc in omega arith)
+
+pub load-leaves : (file before after : List ℕ) (r : Verdict) → Loads file before r after → (why : Refusal) → r ≡ Stop why → after ≡ before
+unfolding planRead
+load-leaves file before after r l why e =
+    l .words ∙ file-leaves (λ x. loaded x before) before (λ r. refl) (planIn file) why (sym (l .verdict) ∙ e)
+
+pub state-load-leaves : (file w after : List ℕ) (r : Verdict) → LoadsPlan file w r after → (why : Refusal) → r ≡ Stop why → after ≡ w
+unfolding planRead
+state-load-leaves file w after r l why e =
+    l .words ∙ file-leaves (λ x. withTemplates x w) w (λ r. refl) (planIn file) why (sym (l .verdict) ∙ e)
+
+pub hand-leaves : {w s : List ℕ} {at : ℕ} {before : List ℕ} {r : CapsuleAnswered} {later after : List ℕ} → HandsBack w s at before r later after
+    → (why : Refusal) → r .answer ≡ Refused why → (later ≡ w) × (after ≡ before) × (r .next ≡ at)
+hand-leaves {w} {s} {at} {before} k why e =
+    let x = readingIn w s at in
+    of (handingVerdict w s at (length before)) (handed x) (received w x) (length (handed x)) (resultAt at x .next)
+    (k .state) (k .writes .output) (k .place) (sym (k .writes .answer) ∙ e)
+  where
+    of : (v : Verdict) (m new : List ℕ) (n place : ℕ) {later after : List ℕ} {next : ℕ} → later ≡ kept v new w → after ≡ outputOf v m before
+        → next ≡ kept v place at → answerOf v n ≡ Refused why → (later ≡ w) × (after ≡ before) × (next ≡ at)
+    of Go m new n place a b c d = absurd (let z : _≡_ {A = ℕ} 0 1 = cc in omega arith)
+    of (Stop other) m new n place a b c d = (a, b, c)
+
+-- what a capsule that was read consumed
+pub consumed : (s : List ℕ) (c : Capsule) (start size : ℕ) → readCapsule s ≡ capsule c start size → Consumed s size
+consumed s c start size e =
+    let r = read-facts s c start size e in
+    let f = r .framed in
+    record { kind = r .kind; count = r .count; kind-size = f .n; count-size = f .m; type = f .type; length-read = f .count; total = read-size s c start size e }
