@@ -20,8 +20,8 @@ use Rattle.lists.specs.declared.RouteRange.{RouteRange}
 use Rattle.lists.specs.Words.{maxAddresses, maxRanges}
 use Rattle.capsule.specs.Elements.{written}
 use Rattle.capsule.specs.Entries.{entryFormat, rangeFormat}
-use Rattle.capsule.specs.Capsules.{maxValue, Capsule, datagram, assign, request, advertise, unknown, capsule, readValue, frameOf, readCapsule, frameBytes, capsuleBytes}
-use Rattle.capsule.specs.Sound.{valueOf, valueStart, Ruled, Sound, sound-datagram, sound-assign, sound-request, sound-advertise, sound-unknown, inWords}
+use Rattle.capsule.specs.Capsules.{maxValue, Capsule, datagram, assign, request, advertise, unknown, capsule, readValue, frameOf, readCapsule, frameBytes, valueOf, capsuleBytes}
+use Rattle.capsule.specs.Sound.{valueStart, Ruled, Sound, sound-datagram, sound-assign, sound-request, sound-advertise, sound-unknown, inWords}
 use Rattle.capsule.specs.Shortest.{shortestFront, behindNumber, everyElement, shortestIds, shortestValue, shortestCapsule}
 use Rattle.capsule.proofs.FrameCases as Frame
 use Rattle.capsule.proofs.Parsing as Parsing
@@ -125,13 +125,17 @@ length-most kind v h l =
     ⊎-elim (λ g. omega (arith, Encoding.size-one (length v) g)) (λ g. omega (arith, Encoding.size-two (length v) g (omega arith))) (order (length v) (2 ^ 6)) in
     omega (arith, length-frame kind v [] h l)
 
+length-unknown : length (frameBytes 4 []) ≡ 2
+unfolding encode
+length-unknown = refl
+
 pub capsule-within : (c : Capsule) → Sound c → length (capsuleBytes c) ≤ 3 + maxValue
 unfolding capsuleBytes
 capsule-within c (sound-datagram {v} h) = length-most 0 v (omega arith) h
 capsule-within c (sound-assign {es} r) = length-most 1 (written (entryFormat false) es) (omega arith) (value-within c (sound-assign r))
 capsule-within c (sound-request {es} r) = length-most 2 (written (entryFormat true) es) (omega arith) (value-within c (sound-request r))
 capsule-within c (sound-advertise {rs} r) = length-most 3 (written rangeFormat rs) (omega arith) (value-within c (sound-advertise r))
-capsule-within c sound-unknown = omega arith
+capsule-within c sound-unknown = omega (arith, length-unknown)
 
 -- ---- read, then written
 module _ (s : List ℕ) (h : Bytes s) (kind start count : ℕ) (f : Frame.Framed s kind start count) where

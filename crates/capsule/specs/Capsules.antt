@@ -102,9 +102,13 @@ readCapsule s = inFrame s (frameOf s)
 abbrev pub frameBytes : ℕ → List ℕ → List ℕ
 frameBytes kind v = encode kind ++ (encode (length v) ++ v)
 
+abbrev pub valueOf : Capsule → List ℕ
+valueOf (datagram v) = v
+valueOf (assign es) = written (entryFormat false) es
+valueOf (request es) = written (entryFormat true) es
+valueOf (advertise rs) = written rangeFormat rs
+valueOf unknown = []
+
+-- no capsule of another type is written
 unfoldable pub capsuleBytes : Capsule → List ℕ
-capsuleBytes (datagram v) = frameBytes 0 v
-capsuleBytes (assign es) = frameBytes 1 (written (entryFormat false) es)
-capsuleBytes (request es) = frameBytes 2 (written (entryFormat true) es)
-capsuleBytes (advertise rs) = frameBytes 3 (written rangeFormat rs)
-capsuleBytes unknown = []
+capsuleBytes c = frameBytes (kindOf c) (valueOf c)

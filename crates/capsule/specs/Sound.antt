@@ -11,18 +11,9 @@ use Rattle.lists.specs.declared.AddressEntry.{AddressEntry}
 use Rattle.lists.specs.declared.RouteRange.{RouteRange}
 use Rattle.octets.specs.Scan.{allOf}
 use Rattle.lists.specs.Words.{maxAddresses, maxRanges}
-use Rattle.capsule.specs.Elements.{Format, judged, countVerdict, written}
+use Rattle.capsule.specs.Elements.{Format, judged, countVerdict}
 use Rattle.capsule.specs.Entries.{entryFormat, rangeFormat}
-use Rattle.capsule.specs.Capsules.{maxValue, kindOf, Capsule, datagram, assign, request, advertise, unknown}
-
--- ---- the parts of a capsule as it is written
-
-abbrev pub valueOf : Capsule → List ℕ
-valueOf (datagram v) = v
-valueOf (assign es) = written (entryFormat false) es
-valueOf (request es) = written (entryFormat true) es
-valueOf (advertise rs) = written rangeFormat rs
-valueOf unknown = []
+use Rattle.capsule.specs.Capsules.{maxValue, kindOf, valueOf, Capsule, datagram, assign, request, advertise, unknown}
 
 -- where the value starts: behind the type and the length
 abbrev pub valueStart : Capsule → ℕ

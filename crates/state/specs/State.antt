@@ -37,37 +37,23 @@ pub record Mirrors (s t : State) : Type 0 where
 
 -- ---- exactly one part replaced
 
+abbrev pub withReceived : State → Side → State
+withReceived s side = record { received = side; given = s .given; templates = s .templates }
+
+abbrev pub withGiven : State → Side → State
+withGiven s side = record { received = s .received; given = side; templates = s .templates }
+
 abbrev pub addressesReceived : State → List AddressEntry → State
-addressesReceived s es =
-    record {
-      received = record { addresses = es; routes = s .received .routes };
-      given = s .given;
-      templates = s .templates;
-    }
+addressesReceived s es = withReceived s (record { addresses = es; routes = s .received .routes })
 
 abbrev pub routesReceived : State → List RouteRange → State
-routesReceived s rs =
-    record {
-      received = record { addresses = s .received .addresses; routes = rs };
-      given = s .given;
-      templates = s .templates;
-    }
+routesReceived s rs = withReceived s (record { addresses = s .received .addresses; routes = rs })
 
 abbrev pub addressesGiven : State → List AddressEntry → State
-addressesGiven s es =
-    record {
-      received = s .received;
-      given = record { addresses = es; routes = s .given .routes };
-      templates = s .templates;
-    }
+addressesGiven s es = withGiven s (record { addresses = es; routes = s .given .routes })
 
 abbrev pub routesGiven : State → List RouteRange → State
-routesGiven s rs =
-    record {
-      received = s .received;
-      given = record { addresses = s .given .addresses; routes = rs };
-      templates = s .templates;
-    }
+routesGiven s rs = withGiven s (record { addresses = s .given .addresses; routes = rs })
 
 abbrev pub templatesLoaded : State → List Template → State
 templatesLoaded s ts = record { received = s .received; given = s .given; templates = ts }

@@ -12,9 +12,9 @@ use Rattle.answer.specs.declared.Refusal.the-variants.{Incomplete}
 use Rattle.answer.specs.Number.{verdictNumber}
 use Rattle.answer.specs.declared.Verdict.the-variants.{Stop}
 use Rattle.capsule.specs.declared.CapsuleRead.{CapsuleRead}
-use Rattle.capsule.specs.Capsules.{Capsule, kindOf, Reading, refused, capsule, readCapsule, frameOf, capsuleBytes}
+use Rattle.capsule.specs.Capsules.{Capsule, kindOf, Reading, refused, capsule, readCapsule, frameOf, valueOf, capsuleBytes}
 use Rattle.capsule.specs.Results.{refusedAt, foundAt, resultAt, readAt}
-use Rattle.capsule.specs.Sound.{valueOf, valueStart}
+use Rattle.capsule.specs.Sound.{valueStart}
 use Rattle.capsule.proofs.RoundTrip.{read-written, length-capsule}
 use Rattle.varint.specs.Numbers.{readNumber}
 use Rattle.walker.specs.Walk.{walk, capsulesBytes, foundAll, AllWritable}

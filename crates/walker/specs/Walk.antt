@@ -6,9 +6,9 @@ use mathlib.Core.List.{List, [], _∷_, _++_}
 use lib.ListN.{length}
 use denote.Ref.{RefT}
 use Rattle.capsule.specs.declared.CapsuleRead.{CapsuleRead}
-use Rattle.capsule.specs.Capsules.{Capsule, unknown, kindOf, capsuleBytes}
+use Rattle.capsule.specs.Capsules.{Capsule, unknown, kindOf, valueOf, capsuleBytes}
 use Rattle.capsule.specs.Results.{foundAt, readAt}
-use Rattle.capsule.specs.Sound.{valueOf, valueStart, Sound, inWords}
+use Rattle.capsule.specs.Sound.{valueStart, Sound, inWords}
 use Rattle.walker.specs.declared.Walker.{Walker}
 
 -- a walker over lent bytes, at a place
