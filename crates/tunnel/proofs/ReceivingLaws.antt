@@ -5,8 +5,8 @@ use mathlib.Core.Bool.{Bool, true, false, not}
 use mathlib.Core.List.{List}
 use native.Mathlib.Omega.{arith}
 use borrow.Author.Tests.{ltb-false, le-ltb, leb-true, not-false}
-use lib.Dec.{ltb, leb, eqb}
-use lib.ListN.{length, drop}
+use lib.Dec.{ltb, leb}
+use lib.ListN.{length}
 use Rattle.answer.specs.declared.Refusal.{Refusal}
 use Rattle.answer.specs.declared.Refusal.the-variants.{BrokenState, BadForm, NotGranted, NoRoom, PacketTooLong, CutDatagram}
 use Rattle.answer.specs.declared.Verdict.{Verdict}
@@ -14,16 +14,12 @@ use Rattle.answer.specs.declared.Verdict.the-variants.{Go, Stop}
 use Rattle.answer.specs.Choice.{pick}
 use Rattle.answer.specs.Verdict.{firstOf, _then_}
 use Rattle.answer.proofs.Tables.{go-test, go-rest, then-first, then-second}
-use Rattle.varint.specs.declared.NumberRead.{NumberRead}
-use Rattle.varint.specs.declared.NumberRead.the-variants.{Whole, Cut}
-use Rattle.varint.specs.Numbers.{readNumber}
 use Rattle.inet.specs.Packet.{form}
 use Rattle.policy.specs.declared.Flow.{Flow}
 use Rattle.policy.specs.Granted.{flowOf, passes}
-use Rattle.table.specs.Templates.{Template}
 use Rattle.state.specs.State.{State, soundState, receivingGranted}
-use Rattle.template.specs.Fits.{Lookup, missing, listed, withId}
-use Rattle.template.specs.Datagrams.{maxPacket, rebuilt, reaches, Opened, refused, packet, withinLimit, openShort, openBody, afterId, opened}
+use Rattle.template.specs.Fits.{Lookup, missing, listed}
+use Rattle.template.specs.Datagrams.{maxPacket, rebuilt, reaches, Opened, refused, packet, withinLimit, openShort, opened}
 use Rattle.tunnel.specs.Tunnel.{receiveRoom, receiveTests, packetTests, openedVerdict, openedBytes, receiveVerdict, receivedBytes}
 
 -- the state is sound, and there is room
@@ -111,7 +107,7 @@ pub received-packet : (s : State) (d q : List ℕ) → opened (s .templates) d �
 unfolding receivedBytes
 received-packet s d q e = ap openedBytes e
 
--- ---- no datagram stands for a packet over the limit
+-- ---- no short form stands for a packet over the limit
 
 refused-not : {r : Refusal} {q : List ℕ} → refused r ≡ packet q → ⊥
 refused-not e = let z : _≡_ {A = ℕ} 0 1 = cc in omega arith
@@ -126,25 +122,10 @@ within-most v q h = go (leb (length v) maxPacket) refl h
     go true e f = let l = leb-true (length v) maxPacket e in omega (arith, ap length (packet-same f))
     go false e f = absurd (refused-not f)
 
-short-most : (v q : List ℕ) (c : Lookup) → openShort v c ≡ packet q → length q ≤ maxPacket
+pub short-most : (v q : List ℕ) (c : Lookup) → openShort v c ≡ packet q → length q ≤ maxPacket
 short-most v q missing h = absurd (refused-not h)
 short-most v q (listed t) h = go (reaches t v) h
   where
     go : (b : Bool) → pick b (withinLimit (rebuilt t v)) (refused CutDatagram) ≡ packet q → length q ≤ maxPacket
     go true f = within-most (rebuilt t v) q f
     go false f = absurd (refused-not f)
-
-body-most : (ts : List Template) (id : ℕ) (v q : List ℕ) → openBody ts id v ≡ packet q → length q ≤ maxPacket
-body-most ts id v q h = go (eqb id 0) h
-  where
-    go : (b : Bool) → pick b (withinLimit v) (openShort v (withId id ts)) ≡ packet q → length q ≤ maxPacket
-    go true f = within-most v q f
-    go false f = short-most v q (withId id ts) f
-
-after-most : (ts : List Template) (d q : List ℕ) (r : NumberRead) → afterId ts d r ≡ packet q → length q ≤ maxPacket
-after-most ts d q (Whole id n) h = body-most ts id (drop n d) q h
-after-most ts d q Cut h = absurd (refused-not h)
-
-pub opened-most : (ts : List Template) (d q : List ℕ) → opened ts d ≡ packet q → length q ≤ maxPacket
-unfolding opened
-opened-most ts d q h = after-most ts d q (readNumber d) h

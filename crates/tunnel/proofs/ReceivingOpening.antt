@@ -3,11 +3,10 @@ use Prim.Native.Nat.{ℕ, _+_, _-_, _≤_, _<_}
 use mathlib.Core.Path.{_≡_, refl, sym, ap, _∙_}
 use mathlib.Core.Logic.{_≢_}
 use mathlib.Core.Bool.{Bool, true, false}
-use mathlib.Core.List.{List, _++_}
+use mathlib.Core.List.{List}
 use native.Mathlib.Omega.{arith}
 use borrow.Author.Tests.{le-leb, lt-leb, eq-eqb, ne-eqb}
 use lib.ListN.{length, take, drop, length-take}
-use lib.Seq.{take-length, take-at}
 use Rattle.octets.proofs.Parts.{tail}
 use Rattle.answer.specs.declared.Refusal.{Refusal}
 use Rattle.answer.specs.declared.Refusal.the-variants.{UnknownContext, CutDatagram, PacketTooLong}
@@ -17,6 +16,7 @@ use Rattle.table.specs.Limits.{maxTemplates}
 use Rattle.table.specs.Templates.{Template}
 use Rattle.table.specs.Words.{templateOf, countIn, wordsAt}
 use Rattle.table.specs.Sound.{UsableTemplate, Usable}
+use Rattle.state.specs.State.{stateIn}
 use Rattle.template.specs.declared.Found.{Found}
 use Rattle.template.specs.declared.Found.the-variants.{At, Nothing}
 use Rattle.template.specs.Pieces.{staticSize}
@@ -27,8 +27,8 @@ use Rattle.template.proofs.RebuildLaws.{length-rebuilt}
 use Rattle.tunnel.specs.declared.receiving.OpenRead.{OpenRead}
 use Rattle.tunnel.specs.declared.receiving.OpenRead.the-variants.{Packet, Refused}
 use Rattle.tunnel.specs.Tunnel.{receiveRoom}
-use Rattle.tunnel.specs.Opening.{Opens}
-use Rattle.tunnel.proofs.ReceivingLaws.{opened-most}
+use Rattle.tunnel.specs.Opening.{Opens, shortIn}
+use Rattle.tunnel.proofs.ReceivingLaws.{short-most}
 
 -- ---- the answer, from what the datagram stands for
 
@@ -75,26 +75,19 @@ pub opens-told : {o : Opened} {x y : OpenRead} {image : List ℕ} → Opens o x 
 opens-told k e = rw e at k
 
 -- a packet is within the limit, and so within an output that has room
-pub opens-room : (ts : List Template) (d : List ℕ) {n m : ℕ} {image : List ℕ} → Opens (opened ts d) (Packet n) image → receiveRoom ≤ m
+pub opens-room : (w : List ℕ) (id : ℕ) (v : List ℕ) {n m : ℕ} {image : List ℕ} → Opens (shortIn w id v) (Packet n) image → receiveRoom ≤ m
     → length (take n image) ≤ m
-opens-room ts d {n} {m} {image} k h =
-    let l = opened-most ts d (take n image) (opens-front (opened ts d) k) in
+opens-room w id v {n} {m} {image} k h =
+    let q = short-most v (take n image) (withId id (stateIn w .templates)) (opens-front (shortIn w id v) k) in
     omega arith
 
 -- ---- the full form
 
-within-limit : (q : List ℕ) → length q ≤ maxPacket → withinLimit q ≡ packet q
+pub within-limit : (q : List ℕ) → length q ≤ maxPacket → withinLimit q ≡ packet q
 within-limit q h = rw (le-leb (length q) maxPacket h)
 
 pub over-limit : (q : List ℕ) → maxPacket < length q → withinLimit q ≡ refused PacketTooLong
 over-limit q h = rw (lt-leb (length q) maxPacket h)
-
--- the body copied to the front of the image
-pub full-opens : (v image : List ℕ) {image′ : List ℕ} {n : ℕ} → length v ≤ maxPacket → n ≡ length v
-    → image′ ≡ take (length v) v ++ drop (length v) image → Opens (withinLimit v) (Packet n) image′
-full-opens v image {image′} {n} h l e =
-    opens-packet v (within-limit v h) l
-    (ap (take n) (e ∙ ap (λ (x : List ℕ). x ++ drop (length v) image) (take-length v)) ∙ take-at v (drop (length v) image) n (sym l))
 
 -- ---- the short form
 

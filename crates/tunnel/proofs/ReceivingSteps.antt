@@ -1,6 +1,6 @@
 -- What each step of judging a datagram and its packet gives. Assumes nothing.
 use Prim.Native.Nat.{ℕ, _≤_, _<_}
-use mathlib.Core.Path.{_≡_, sym, ap, _∙_}
+use mathlib.Core.Path.{_≡_, refl, sym, ap, _∙_}
 use mathlib.Core.Bool.{Bool, true, false}
 use mathlib.Core.List.{List, _++_}
 use borrow.Author.Tests.{lt-ltb, le-ltb}
@@ -9,14 +9,15 @@ use lib.Seq.{take-length}
 use Rattle.answer.specs.declared.Refusal.{Refusal}
 use Rattle.answer.specs.declared.Refusal.the-variants.{BrokenState, BadForm, NotGranted, NoRoom}
 use Rattle.answer.specs.declared.Answer.{Answer}
-use Rattle.answer.specs.declared.Answer.the-variants.{Done}
+use Rattle.answer.specs.declared.Answer.the-variants.{Done, Refused}
 use Rattle.answer.specs.declared.Verdict.the-variants.{Go, Stop}
 use Rattle.answer.specs.Verdict.{firstOf, Writes}
 use Rattle.inet.specs.Packet.{form}
-use Rattle.state.specs.State.{State, soundState, receivingGranted}
-use Rattle.template.specs.Datagrams.{refused, packet, opened}
-use Rattle.tunnel.specs.Tunnel.{receiveRoom, receiveTests, packetTests, openedVerdict, receiveVerdict, receivedBytes}
-use Rattle.tunnel.proofs.ReceivingLaws.{StateGo, facts-packet, receive-opened, received-packet}
+use Rattle.state.specs.State.{State, soundState, receivingGranted, stateIn}
+use Rattle.template.specs.Datagrams.{Opened, refused}
+use Rattle.tunnel.specs.Tunnel.{receiveRoom, receiveTests, packetTests, receivedBytes, Receives}
+use Rattle.tunnel.specs.Opening.{openedIn, Takes}
+use Rattle.tunnel.proofs.ReceivingLaws.{StateGo, facts-packet, receive-opened}
 
 -- ---- the state
 
@@ -53,14 +54,18 @@ module _ (s : State) (q : List ℕ) {b : Bool} (e : b ≡ form q) where
         rw (facts-packet s q (sym e ∙ f) (sym p ∙ k))
         (record { answer = ap Done l; output = w ∙ ap (λ (x : List ℕ). x ++ drop (length q) out) (take-length q) })
 
--- ---- both
+-- ---- what was opened
 
-module _ (s : State) (d : List ℕ) {n : ℕ} (g : StateGo s n) where
-  pub receive-refused : {r : Refusal} → opened (s .templates) d ≡ refused r → receiveVerdict s d n ≡ Stop r
-  receive-refused e = receive-opened s d n g ∙ ap (openedVerdict s) e
+module _ (w : List ℕ) {o : Opened} {out : List ℕ} where
+  pub takes-refused : {r : Refusal} → o ≡ refused r → Takes w o out (Refused r) out
+  takes-refused e = rw e (record { writes = record { answer = refl; output = refl } })
 
-  -- the packet is judged and written as what is received
-  pub receive-packet : {q out out′ : List ℕ} {r : Answer} → opened (s .templates) d ≡ packet q → Writes (firstOf (packetTests s q)) q out r out′
-      → Writes (receiveVerdict s d n) (receivedBytes s d) out r out′
-  receive-packet {q} e w =
-      rw (receive-opened s d n g ∙ ap (openedVerdict s) e, received-packet s d q e) w
+  -- the same of what is equal
+  pub takes-as : {p : Opened} → o ≡ p → {r : Answer} {out′ : List ℕ} → Takes w p out r out′ → Takes w o out r out′
+  takes-as e k = rw e k
+
+-- with a sound state and room it is what is received
+pub receive-taken : (w d : List ℕ) {out out′ : List ℕ} {r : Answer} → StateGo (stateIn w) (length out) → Takes w (openedIn w d) out r out′
+    → Receives w d out r out′
+unfolding receivedBytes
+receive-taken w d {out} g k = record { writes = rw (receive-opened (stateIn w) d (length out) g) (k .writes) }

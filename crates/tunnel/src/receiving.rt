@@ -21,8 +21,8 @@ ghost use Rattle.table.specs.Words.{templateWords, tableWords, templateOf, temp
 ghost use Rattle.table.specs.Sound.{UsableTemplate, Usable};
 ghost use Rattle.state.specs.State.{stateWords, stateIn};
 ghost use Rattle.template.specs.Fits.{listed, withId};
-ghost use Rattle.template.specs.Datagrams.{withinLimit, openShort, opened};
-ghost use Rattle.tunnel.specs.Opening.{Opens, Takable, Takes};
+ghost use Rattle.template.specs.Datagrams.{packet, withinLimit, openShort};
+ghost use Rattle.tunnel.specs.Opening.{Opens, openedIn, shortIn, Receivable, Takable, Takes};
 ghost use Rattle.tunnel.specs.Tunnel.{receiveTests, Receives};
 
 // What a datagram opens to: a packet of so many bytes at the front of an image, or a refusal.
@@ -39,15 +39,7 @@ pub fn receive(state: &[u64; STATE_WORDS], datagram: &[u8], out: &mut [u8]) -> A
     let v = state_verdict(state, room);
     match v {
         Verdict::Stop(r) => Answer::Refused(r),
-        Verdict::Go => {
-            let mut image = [0u8; MAX_PACKET];
-            let words = &state[..];
-            let read = open(&words[TABLE_AT..STATE_WORDS], datagram, &mut image);
-            match read {
-                OpenRead::Refused(r) => Answer::Refused(r),
-                OpenRead::Packet(n) => take_in(words, &image[..n], out),
-            }
-        }
+        Verdict::Go => take_datagram(state, datagram, out),
     }
 }
 
@@ -65,38 +57,53 @@ fn state_verdict(state: &[u64], room: usize) -> Verdict
     Verdict::Go
 }
 
-// Puts the packet that a datagram stands for at the front of image.
-fn open(table: &[u64], datagram: &[u8], image: &mut [u8; MAX_PACKET]) -> OpenRead
-    requires { ⌜ tableWords ≤ length (now table) ⌝ }
-    requires { ⌜ Usable (now table) ⌝ }
-    ensures { λ r. ⌜ Opens (opened (templatesOf (now (table .entry))) (now (datagram .entry))) r (now (image .exit)) ⌝ }
+// By the Context ID: 0 is the full form.
+fn take_datagram(state: &[u64], datagram: &[u8], out: &mut [u8]) -> Answer
+    requires { ⌜ stateWords ≤ length (now state) ⌝ }
+    requires { ⌜ Receivable (now state) (now out) ⌝ }
+    ensures { λ r. ⌜ Takes (now (state .entry)) (openedIn (now (state .entry)) (now (datagram .entry))) (now (out .entry)) r (now (out .exit)) ⌝ }
 {
     let read = varint::read(datagram);
     match read {
-        NumberRead::Cut => OpenRead::Refused(Refusal::CutDatagram),
+        NumberRead::Cut => Answer::Refused(Refusal::CutDatagram),
         NumberRead::Whole { value, size } => {
             let body = &datagram[size..];
             if value == 0 {
-                open_full(body, image)
+                take_full(state, body, out)
             } else {
-                open_short(table, ContextId(value), body, image)
+                take_short(state, ContextId(value), body, out)
             }
         }
     }
 }
 
-// Context ID 0: the packet follows.
-fn open_full(body: &[u8], image: &mut [u8; MAX_PACKET]) -> OpenRead
-    ensures { λ r. ⌜ Opens (withinLimit (now (body .entry))) r (now (image .exit)) ⌝ }
+// The packet itself: it is judged where it lies.
+fn take_full(state: &[u64], body: &[u8], out: &mut [u8]) -> Answer
+    requires { ⌜ stateWords ≤ length (now state) ⌝ }
+    requires { ⌜ Receivable (now state) (now out) ⌝ }
+    ensures { λ r. ⌜ Takes (now (state .entry)) (withinLimit (now (body .entry))) (now (out .entry)) r (now (out .exit)) ⌝ }
 {
     if MAX_PACKET < body.len() {
-        return OpenRead::Refused(Refusal::PacketTooLong);
+        return Answer::Refused(Refusal::PacketTooLong);
     }
-    let n = bytes::copy(body, image);
-    OpenRead::Packet(n)
+    take_in(state, body, out)
 }
 
-// Another Context ID is that of a template.
+// A packet that a template completes: it is rebuilt in an image.
+fn take_short(state: &[u64], id: ContextId, body: &[u8], out: &mut [u8]) -> Answer
+    requires { ⌜ stateWords ≤ length (now state) ⌝ }
+    requires { ⌜ Receivable (now state) (now out) ⌝ }
+    ensures { λ r. ⌜ Takes (now (state .entry)) (shortIn (now (state .entry)) (id .0) (now (body .entry))) (now (out .entry)) r (now (out .exit)) ⌝ }
+{
+    let mut image = [0u8; MAX_PACKET];
+    let read = open_short(&state[TABLE_AT..STATE_WORDS], id, body, &mut image);
+    match read {
+        OpenRead::Refused(r) => Answer::Refused(r),
+        OpenRead::Packet(n) => take_in(state, &image[..n], out),
+    }
+}
+
+// Puts the packet that the bytes behind the Context ID of a template stand for at the front of image.
 fn open_short(table: &[u64], id: ContextId, body: &[u8], image: &mut [u8; MAX_PACKET]) -> OpenRead
     requires { ⌜ tableWords ≤ length (now table) ⌝ }
     requires { ⌜ Usable (now table) ⌝ }
@@ -130,20 +137,20 @@ fn open_by(t: &[u64], body: &[u8], image: &mut [u8; MAX_PACKET]) -> OpenRead
 }
 
 // Judges a packet, and copies it to the front of out. Receiving is granted by the given side, or as a reply by the received one.
-fn take_in(state: &[u64], packet: &[u8], out: &mut [u8]) -> Answer
+fn take_in(state: &[u64], inner: &[u8], out: &mut [u8]) -> Answer
     requires { ⌜ stateWords ≤ length (now state) ⌝ }
-    requires { ⌜ Takable (now state) (now packet) (now out) ⌝ }
-    ensures { λ r. ⌜ Takes (now (state .entry)) (now (packet .entry)) (now (out .entry)) r (now (out .exit)) ⌝ }
+    requires { ⌜ Takable (now state) (now inner) (now out) ⌝ }
+    ensures { λ r. ⌜ Takes (now (state .entry)) (packet (now (inner .entry))) (now (out .entry)) r (now (out .exit)) ⌝ }
 {
-    if !inet::packet::form(packet) {
+    if !inet::packet::form(inner) {
         return Answer::Refused(Refusal::BadForm);
     }
-    let flow = policy::flow_of(packet);
+    let flow = policy::flow_of(inner);
     let received = &state[RECEIVED_AT..GIVEN_AT];
     let given = &state[GIVEN_AT..TABLE_AT];
     if !policy::passes(given, received, flow) {
         return Answer::Refused(Refusal::NotGranted);
     }
-    let n = bytes::copy(packet, out);
+    let n = bytes::copy(inner, out);
     Answer::Done(n)
 }

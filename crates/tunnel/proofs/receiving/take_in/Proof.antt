@@ -21,7 +21,7 @@ abbrev S : tie.After-passes → State
 S c = stateIn (In c .args .state .now)
 
 abbrev P : tie.After-passes → List ℕ
-P c = In c .args .packet .now
+P c = In c .args .inner .now
 
 granted : (c : tie.After-passes) → c .passes .result ≡ receivingGranted (S c) (P c)
 granted c = receiving-by (S c) (P c) (c .before .before .before .flow-of .ensures) (c .passes .ensures)
