@@ -11,7 +11,7 @@ use Rattle.answer.specs.declared.Answer.{Answer}
 use Rattle.answer.specs.declared.Answer.the-variants.{Done, Refused}
 use Rattle.answer.specs.declared.Verdict.{Verdict}
 use Rattle.answer.specs.declared.Verdict.the-variants.{Stop}
-use Rattle.answer.specs.Number.{answerNumber}
+use Rattle.answer.specs.Number.{answerNumber, answerLength}
 use Rattle.answer.specs.Verdict.{Writes}
 use Rattle.octets.specs.Big.{Bytes}
 use Rattle.varint.specs.declared.NumberRead.the-variants.{Whole}
@@ -48,7 +48,7 @@ use Rattle.exchange.specs.Writing.{Gives, Assigns, Advertises, AssignsValue, Ad
 use Rattle.exchange.specs.declared.handing.CapsuleAnswered.{CapsuleAnswered}
 use Rattle.exchange.specs.Handing.{HandsBack}
 use Rattle.exchange.proofs.ReadLaws.{read-refusal-leaves, assign-replaces, advertise-replaces}
-use Rattle.exchange.proofs.WriteLaws.{refusal-leaves, assign-gives, advertise-gives, assign-received, advertise-received}
+use Rattle.exchange.proofs.WriteLaws.{assign-gives, advertise-gives, assign-received, advertise-received}
 use Rattle.exchange.proofs.WriteLaws.{assign-value-gives, advertise-value-gives}
 use Rattle.ends.specs.Ends.{Exchanged}
 use Rattle.template.specs.Members.{In}
@@ -57,9 +57,11 @@ use Rattle.template.specs.Datagrams.{fullForm, packet, opened}
 use Rattle.tunnel.specs.Tunnel.{sendRoom, receiveRoom, Sends, Receives}
 use Rattle.tunnel.specs.Answers.{receiveAnswer, receiveOutput, Passes, datagramOf, packetOf}
 use Rattle.tunnel_c.specs.declared.PlainAnswer.{PlainAnswer}
-use Rattle.tunnel_c.specs.Plain.{plainAnswer, Plainly}
+use Rattle.tunnel_c.specs.declared.capsules.PlainCapsule.{PlainCapsule}
+use Rattle.tunnel_c.specs.Plain.{plainAnswer, Plainly, ReadsPlainly, AssignsPlainly, AdvertisesPlainly}
 use Rattle.ends.specs.Outcomes.{Leaves, ReadBack, Consumed, allowedOut, allowedIn, SentShort, TakesIn, Twins}
-use Rattle.ends.proofs.Refusals.{writes-leaves, plainly-leaves, load-leaves, state-load-leaves, hand-leaves, consumed}
+use Rattle.ends.proofs.Refusals.{writes-leaves, gives-leaves, load-leaves, state-load-leaves, hand-leaves, consumed}
+use Rattle.ends.proofs.Refusals.{plainly-leaves, plainly-gives-leaves, plainly-read-leaves}
 use Rattle.ends.proofs.WrittenBack.{datagram-back, assign-back, request-back, routes-back}
 use Rattle.ends.proofs.Passing.{allowed-passes, passes-allowed, passes-lowers, allowed-taken, taken-allowed, taken-unchanged}
 use Rattle.ends.proofs.Passing.{icmp-out, icmp-out-reply, icmp-in, icmp-in-reply, icmp-4-not-58}
@@ -102,11 +104,6 @@ module _ {before after : List ℕ} {r : Answer} where
   pub receive-refused : (w d : List ℕ) → Receives w d before r after → Leaves r before after
   receive-refused w d s = writes-leaves _ (s .writes)
 
--- the functions for C: what they hand over has the number and the length of such an answer
-pub plain-refused : {P : Answer → Type 0} {before after : List ℕ} {r : PlainAnswer} → ((a : Answer) → P a → Leaves a before after) → Plainly plainAnswer P r
-    → (r .number ≡ 0 → ⊥) → (r .length ≡ 0) × (after ≡ before)
-plain-refused = plainly-leaves
-
 -- a plan file that is refused leaves the table, and the state
 pub load-refused : (file before after : List ℕ) (r : Verdict) → Loads file before r after → (why : Refusal) → r ≡ Stop why → after ≡ before
 load-refused = load-leaves
@@ -125,9 +122,26 @@ pub read-refused : {w s : List ℕ} {at : ℕ} {l : List ℕ} {r : CapsuleRead} 
 read-refused = read-refusal-leaves
 
 -- a list that is refused, to be assigned or advertised, in words or as bytes, alters no word of the state and no byte of the output
-pub list-refused : {v : Verdict} {m new w before : List ℕ} {r : Answer} {left after : List ℕ} → Gives v m new w before r left after
-    → (why : Refusal) → r ≡ Refused why → (left ≡ w) × (after ≡ before)
-list-refused = refusal-leaves
+pub list-refused : (v : Verdict) {m new w before : List ℕ} {r : Answer} {left after : List ℕ} → Gives v m new w before r left after
+    → (answerNumber r ≡ 0 → ⊥) → (answerLength r ≡ 0) × (after ≡ before) × (left ≡ w)
+list-refused = gives-leaves
+
+-- the functions for C: what they hand over has the number and the length of such an answer
+module _ {r : PlainAnswer} where
+  pub plain-refused : {P : Answer → Type 0} {before after : List ℕ} → Plainly plainAnswer P r → (r .number ≡ 0 → ⊥)
+      → ((a : Answer) → P a → Leaves a before after) → (r .length ≡ 0) × (after ≡ before)
+  plain-refused q h law = plainly-leaves q h law
+
+  module _ (w l : List ℕ) {before left after : List ℕ} (refused : r .number ≡ 0 → ⊥) where
+    pub plain-assign-refused : AssignsPlainly w l before r left after → (r .length ≡ 0) × (after ≡ before) × (left ≡ w)
+    plain-assign-refused q = plainly-gives-leaves q refused _ (λ a g. g)
+
+    pub plain-routes-refused : AdvertisesPlainly w l before r left after → (r .length ≡ 0) × (after ≡ before) × (left ≡ w)
+    plain-routes-refused q = plainly-gives-leaves q refused _ (λ a g. g)
+
+pub plain-read-refused : {w s : List ℕ} {at : ℕ} {l : List ℕ} {r : PlainCapsule} {after list : List ℕ} → ReadsPlainly w s at l r after list
+    → (r .number ≡ 0 → ⊥) → (after ≡ w) × (list ≡ l) × (r .next ≡ at)
+plain-read-refused = plainly-read-leaves
 
 -- ---- 2. Capsules, lists and verdicts
 

@@ -9,7 +9,7 @@ use Rattle.answer.specs.declared.Answer.{Answer}
 use Rattle.answer.specs.declared.Answer.the-variants.{Refused}
 use Rattle.answer.specs.declared.Verdict.{Verdict}
 use Rattle.answer.specs.declared.Verdict.the-variants.{Go, Stop}
-use Rattle.answer.specs.Number.{answerNumber, answerLength}
+use Rattle.answer.specs.Number.{answerNumber, answerLength, verdictNumber}
 use Rattle.answer.specs.Verdict.{Writes, answerOf, outputOf, kept}
 use Rattle.capsule.specs.Capsules.{Capsule, capsule, readCapsule}
 use Rattle.capsule.specs.Results.{resultAt}
@@ -21,20 +21,48 @@ use Rattle.table.specs.Load.{verdictIn, loaded, planRead, Loads}
 use Rattle.state.specs.Loading.{withTemplates, LoadsPlan}
 use Rattle.exchange.specs.declared.handing.CapsuleAnswered.{CapsuleAnswered}
 use Rattle.exchange.specs.Reading.{readingIn, received}
+use Rattle.exchange.specs.Writing.{Gives}
 use Rattle.exchange.specs.Handing.{handed, handingVerdict, HandsBack}
+use Rattle.exchange.proofs.ReadLaws.{read-refusal-leaves}
 use Rattle.tunnel_c.specs.declared.PlainAnswer.{PlainAnswer}
-use Rattle.tunnel_c.specs.Plain.{plainAnswer, Plainly}
+use Rattle.tunnel_c.specs.declared.capsules.PlainCapsule.{PlainCapsule}
+use Rattle.tunnel_c.specs.Plain.{plainAnswer, plainCapsule, Plainly, ReadsPlainly}
 use Rattle.ends.specs.Outcomes.{Leaves, Consumed}
 
 pub writes-leaves : (v : Verdict) {m before after : List ℕ} {r : Answer} → Writes v m before r after → Leaves r before after
 writes-leaves Go w h = absurd (h (ap answerNumber (w .answer)))
 writes-leaves (Stop why) w h = (ap answerLength (w .answer), w .output)
 
-pub plainly-leaves : {P : Answer → Type 0} {before after : List ℕ} {r : PlainAnswer} → ((a : Answer) → P a → Leaves a before after)
-    → Plainly plainAnswer P r → (r .number ≡ 0 → ⊥) → (r .length ≡ 0) × (after ≡ before)
-plainly-leaves law q h =
-    let l = law (q .answer) (q .promised) (λ z. h (ap (λ (x : PlainAnswer). x .number) (q .shown) ∙ z)) in
-    (ap (λ (x : PlainAnswer). x .length) (q .shown) ∙ l .0, l .1)
+pub gives-leaves : (v : Verdict) {m new w before : List ℕ} {r : Answer} {left after : List ℕ} → Gives v m new w before r left after
+    → (answerNumber r ≡ 0 → ⊥) → (answerLength r ≡ 0) × (after ≡ before) × (left ≡ w)
+gives-leaves Go g h = absurd (h (ap answerNumber (g .writes .answer)))
+gives-leaves (Stop why) g h = (ap answerLength (g .writes .answer), g .writes .output, g .state)
+
+-- what holds of the answer of a refusal holds of its plain form
+module _ {P : Answer → Type 0} {r : PlainAnswer} (q : Plainly plainAnswer P r) (h : r .number ≡ 0 → ⊥) where
+  refuses : answerNumber (q .answer) ≡ 0 → ⊥
+  refuses z = h (ap (λ (x : PlainAnswer). x .number) (q .shown) ∙ z)
+
+  no-length : answerLength (q .answer) ≡ 0 → r .length ≡ 0
+  no-length e = ap (λ (x : PlainAnswer). x .length) (q .shown) ∙ e
+
+  pub plainly-leaves : {before after : List ℕ} → ((a : Answer) → P a → Leaves a before after) → (r .length ≡ 0) × (after ≡ before)
+  plainly-leaves law = let l = law (q .answer) (q .promised) refuses in (no-length (l .0), l .1)
+
+  pub plainly-gives-leaves : (v : Verdict) {m new w before left after : List ℕ} → ((a : Answer) → P a → Gives v m new w before a left after)
+      → (r .length ≡ 0) × (after ≡ before) × (left ≡ w)
+  plainly-gives-leaves v law = let l = gives-leaves v (law (q .answer) (q .promised)) refuses in (no-length (l .0), l .1, l .2)
+
+pub plainly-read-leaves : {w s : List ℕ} {at : ℕ} {l : List ℕ} {r : PlainCapsule} {after list : List ℕ} → ReadsPlainly w s at l r after list
+    → (r .number ≡ 0 → ⊥) → (after ≡ w) × (list ≡ l) × (r .next ≡ at)
+unfolding plainCapsule
+plainly-read-leaves {w} {s} {at} {l} {r} {after} {list} q h = of (q .answer .verdict) refl
+  where
+    of : (v : Verdict) → q .answer .verdict ≡ v → (after ≡ w) × (list ≡ l) × (r .next ≡ at)
+    of Go e = absurd (h (ap (λ (x : PlainCapsule). x .number) (q .shown) ∙ ap verdictNumber e))
+    of (Stop why) e =
+        let k = read-refusal-leaves (q .promised) why e in
+        (k .0, k .1, ap (λ (x : PlainCapsule). x .next) (q .shown) ∙ k .2)
 
 -- a file that is refused gives no templates
 file-leaves : {A : Type 0} (put : Step (List Template) → A) (before : A) → ((r : Refusal) → put (stop r) ≡ before)
