@@ -1,0 +1,163 @@
+-- The lines of a plan part by part, as the code puts them. Assumes nothing.
+use Prim.Native.Nat.{ℕ, _+_, _-_, _<_, _≤_}
+use mathlib.Core.Bool.{true, false}
+use mathlib.Core.Path.{_≡_, refl, ap, _∙_}
+use mathlib.Core.List.{List, [], _∷_, _++_, map}
+use native.Mathlib.Nat.{sub-zero}
+use native.Mathlib.Omega.{arith}
+use lib.ListN.{length}
+use Rattle.octets.specs.Scan.{from}
+use Rattle.octets.proofs.Scans.{from-more, from-end}
+use Rattle.output.specs.Places.{Put}
+use Rattle.output.proofs.Placing.{put-then, put-as, Putting, putting-first}
+use Rattle.table.specs.declared.Segment.{Segment}
+use Rattle.table.specs.declared.Head.{Head}
+use Rattle.table.specs.Limits.{maxSegments, staticLimit}
+use Rattle.table.specs.Templates.{Piece, pieceEnd, Template}
+use Rattle.table.specs.Words.{segmentAt, headOf, pieceOf, templateOf, countIn, wordsAt, templatesOf}
+use Rattle.table.specs.Sound.{Ascends, UsableTemplate, Usable}
+use Rattle.table.proofs.Judging.{length-piece, length-pieces, id-of, sum-of, templates-by, length-templates}
+use Rattle.plan_show.specs.Text.{ascii, decimal}
+use Rattle.plan_show.specs.Lines.{labelled, lastLabelled, staticSize, sumText, templateLine, templateLines, tableLines}
+use Rattle.plan_show.proofs.Rooms.{room-first, room-next, room-as}
+
+-- ---- static bytes
+
+-- pieces that end within the limit hold no more bytes
+pub static-most : (ps : List Piece) (pos : ℕ) → Ascends pos ps → pos + staticSize ps ≤ staticLimit
+unfolding Ascends
+static-most [] pos a = omega (arith, a)
+static-most (p ∷ ps) pos a = omega (arith, a .0, static-most ps (pieceEnd p) (a .1))
+
+-- the bytes of n segments from j on
+abbrev sizeFrom : List ℕ → ℕ → ℕ → ℕ
+sizeFrom t j n = staticSize (map (pieceOf t) (from (segmentAt t) j n))
+
+-- the bytes of the first j of n segments are added up
+pub record Adding (t : List ℕ) (n total j : ℕ) : Type 0 where
+  pub within : j ≤ n
+  pub rest : total + sizeFrom t j (n - j) ≡ staticSize (templateOf t .pieces)
+
+module _ (t : List ℕ) where
+  size-by : staticSize (templateOf t .pieces) ≡ sizeFrom t 0 (headOf t .count)
+  unfolding templateOf
+  size-by = refl
+
+  pub adding-none : {h : Head} → h ≡ headOf t → Adding t (h .count) 0 0
+  adding-none q = record { within = omega arith; rest = rw (q, sub-zero) (omega (arith, size-by)) }
+
+module _ {t : List ℕ} {n total j : ℕ} (a : Adding t n total j) where
+  module _ {s : Segment} (h : j < n) (q : s ≡ segmentAt t j) where
+    size-more : sizeFrom t j (n - j) ≡ s .length + sizeFrom t (j + 1) (n - (j + 1))
+    size-more =
+        rw q
+        (ap (λ (ss : List Segment). staticSize (map (pieceOf t) ss)) (from-more (segmentAt t) j n h)
+        ∙ ap (λ (k : ℕ). k + sizeFrom t (j + 1) (n - (j + 1))) (length-piece t (segmentAt t j)))
+
+    pub adding-fits : UsableTemplate t → total + s .length ≤ staticLimit
+    adding-fits u = omega (arith, a .rest, size-more, static-most (templateOf t .pieces) 0 (u .sound .ascends))
+
+    pub adding-more : Adding t n (total + s .length) (j + 1)
+    adding-more = record { within = omega arith; rest = omega (arith, a .rest, size-more) }
+
+  pub adding-done : n ≤ j → total ≡ staticSize (templateOf t .pieces)
+  adding-done h = omega (arith, a .rest, ap (λ (ss : List Segment). staticSize (map (pieceOf t) ss)) (from-end (segmentAt t) j n h))
+
+-- ---- a template
+
+module _ (t : List ℕ) {h : Head} (q : h ≡ headOf t) where
+  pub few-segments : UsableTemplate t → h .count ≤ maxSegments
+  few-segments u = rw q (u .few)
+
+  pub sum-none : h .checksum ≡ false → ascii " checksum none\n" ≡ sumText (templateOf t .sum)
+  sum-none e = rw (sum-of t, ← q, e)
+
+  pub sum-some : h .checksum ≡ true → labelled (ascii " checksum ") (h .field) ++ lastLabelled (ascii " ") (h .start) ≡ sumText (templateOf t .sum)
+  sum-some e = rw (sum-of t, ← q, e)
+
+  -- ---- its line
+
+  module _ {size : ℕ} (e : size ≡ staticSize (templateOf t .pieces)) where
+    id : List ℕ
+    id = decimal (h .id .0)
+
+    segments : List ℕ
+    segments = labelled (ascii " segments ") (h .count)
+
+    bytes : List ℕ
+    bytes = labelled (ascii " static ") size
+
+    checksum : List ℕ
+    checksum = sumText (templateOf t .sum)
+
+    parts : id ++ (segments ++ (bytes ++ checksum)) ≡ templateLine (templateOf t)
+    unfolding templateLine id segments bytes checksum
+    parts = rw (e, id-of t, length-pieces t, ← q)
+
+    pub put-line : {a b c d o : List ℕ} {at p q r s : ℕ} → Put (decimal (h .id .0)) at a p b → Put (labelled (ascii " segments ") (h .count)) p b q c
+        → Put (labelled (ascii " static ") size) q c r d → Put (sumText (templateOf t .sum)) r d s o → Put (templateLine (templateOf t)) at a s o
+    unfolding id segments bytes checksum
+    put-line x y z w = put-as parts (put-then x (put-then y (put-then z w)))
+
+    -- there is room for each part
+    module _ (at : ℕ) (a : List ℕ) (room : at + length (templateLine (templateOf t)) ≤ length a) where
+      all-room : at + length (id ++ (segments ++ (bytes ++ checksum))) ≤ length a
+      all-room = room-as at parts room
+
+      pub id-room : at + length (decimal (h .id .0)) ≤ length a
+      unfolding id
+      id-room = room-first id (segments ++ (bytes ++ checksum)) at all-room
+
+      module _ {p : ℕ} {b : List ℕ} (x : Put (decimal (h .id .0)) at a p b) where
+        behind-id : p + length (segments ++ (bytes ++ checksum)) ≤ length b
+        unfolding id
+        behind-id = room-next id (segments ++ (bytes ++ checksum)) x all-room
+
+        pub segments-room : p + length (labelled (ascii " segments ") (h .count)) ≤ length b
+        unfolding segments
+        segments-room = room-first segments (bytes ++ checksum) p behind-id
+
+        module _ {r : ℕ} {d : List ℕ} (y : Put (labelled (ascii " segments ") (h .count)) p b r d) where
+          behind-segments : r + length (bytes ++ checksum) ≤ length d
+          unfolding segments
+          behind-segments = room-next segments (bytes ++ checksum) y behind-id
+
+          pub static-room : r + length (labelled (ascii " static ") size) ≤ length d
+          unfolding bytes
+          static-room = room-first bytes checksum r behind-segments
+
+          pub sum-room : {s : ℕ} {o : List ℕ} → Put (labelled (ascii " static ") size) r d s o → s + length (sumText (templateOf t .sum)) ≤ length o
+          unfolding bytes checksum
+          sum-room z = room-next bytes checksum z behind-segments
+
+-- ---- the templates of a table
+
+-- n templates from i on
+abbrev pub templatesFrom : List ℕ → ℕ → ℕ → List Template
+templatesFrom w i n = map templateOf (from (wordsAt w) i n)
+
+module _ (w : List ℕ) where
+  pub templates-start : templateLines (templatesFrom w 0 (countIn w - 0)) ≡ templateLines (templatesOf w)
+  templates-start = rw (sub-zero, templates-by w)
+
+  module _ (i n : ℕ) where
+    pub templates-more : {t : List ℕ} → i < n → t ≡ wordsAt w i
+        → templateLines (templatesFrom w i (n - i)) ≡ templateLine (templateOf t) ++ templateLines (templatesFrom w (i + 1) (n - (i + 1)))
+    templates-more h q = rw q (ap (λ (ts : List (List ℕ)). templateLines (map templateOf ts)) (from-more (wordsAt w) i n h))
+
+    -- there is room for the next
+    pub template-room : {t all before out : List ℕ} {start next : ℕ} → i < n → t ≡ wordsAt w i
+        → Putting (templateLines (templatesFrom w i (n - i))) all start before next out → start + length all ≤ length before
+        → next + length (templateLine (templateOf t)) ≤ length out
+    template-room {t} h q p r =
+        putting-first p (templateLine (templateOf t)) (templateLines (templatesFrom w (i + 1) (n - (i + 1)))) (templates-more h q) r
+
+    pub templates-none : n ≤ i → templateLines (templatesFrom w i (n - i)) ≡ []
+    templates-none h = ap (λ (ts : List (List ℕ)). templateLines (map templateOf ts)) (from-end (wordsAt w) i n h)
+
+  pub usable-at : (i : ℕ) {t : List ℕ} → Usable w → i < countIn w → t ≡ wordsAt w i → UsableTemplate t
+  usable-at i u h q = rw q (u .all i h)
+
+  -- the first line says the count
+  pub table-parts : lastLabelled (ascii "plan 1 templates ") (countIn w) ++ templateLines (templatesOf w) ≡ tableLines (templatesOf w)
+  table-parts = rw (length-templates w)

@@ -1,0 +1,54 @@
+-- The invariant: what is added and what is left are all of it (`Adding`).
+use Prim.Native.Nat.{_-_}
+use native.Mathlib.Omega.{arith}
+use Rattle.plan_show.proofs.Parts.{Adding, adding-none, adding-fits, adding-more, adding-done, few-segments}
+use borrow.Author.Needs.{needs}
+use Rattle.plan_show.proofs.lines.static_size.Statement.{statement}
+use Rattle.plan_show.proofs.lines.static_size.Tie as tie
+
+abbrev Inv-loop : tie.InvT-loop
+Inv-loop t n total₀ j₀ total j = Adding t n total j
+
+abbrev μ-loop : tie.MeasureT-loop
+μ-loop t n total₀ j₀ total j = n - j
+
+head-of-requires : tie.Need-head-of-requires Inv-loop μ-loop
+head-of-requires c κs = search needs
+
+loop-holds : tie.Need-loop-holds Inv-loop μ-loop
+loop-holds c = adding-none (c .before .before .args .t .now) (c .head-of .ensures)
+
+segment-at-requires : tie.Need-segment-at-requires Inv-loop μ-loop
+segment-at-requires c κs =
+    let s = c .before .before .before .before in
+    (s .pre .0, omega (arith, c .loop-test .taken, few-segments (s .args .t .now) (c .before .before .head-of .ensures) (s .pre .1)))
+
+add-total : tie.Need-add-total Inv-loop μ-loop
+add-total c = omega (arith, adding-fits (c .before .before .before .loop .inv) (c .before .before .loop-test .taken) (c .before .segment-at .ensures) (c .before .before .before .before .before .before .pre .1))
+
+add-j : tie.Need-add-j Inv-loop μ-loop
+add-j c = omega (arith)
+
+loop-less : tie.Need-loop-less Inv-loop μ-loop
+loop-less c = omega arith
+
+loop-again : tie.Need-loop-again Inv-loop μ-loop
+loop-again c = adding-more (c .before .before .before .loop .inv) (c .before .before .loop-test .taken) (c .before .segment-at .ensures)
+
+returns : tie.Need-returns Inv-loop μ-loop
+returns c = adding-done (c .before .loop .inv) (c .loop-test .left)
+
+pub static-size-spec : {M : Type 1} → statement M
+static-size-spec =
+    tie.close
+    (tie.spec
+    Inv-loop
+    μ-loop
+    head-of-requires
+    loop-holds
+    segment-at-requires
+    add-total
+    add-j
+    loop-less
+    loop-again
+    returns)
