@@ -7,17 +7,18 @@ use native.Mathlib.Omega.{arith}
 use lib.ListN.{length, length-append}
 use Rattle.answer.specs.declared.Verdict.the-variants.{Go}
 use Rattle.answer.proofs.Tables.{then-first, then-second}
-use Rattle.table.specs.Templates.{Piece, Sum, noSum, sumAt, Template}
+use Rattle.table.specs.Templates.{Piece, Sum, noSum, sumAt, Template, staticSize}
 use Rattle.table.specs.Words.{countIn, templatesOf}
 use Rattle.table.specs.Rules.{templateFault, templatesFault, soundTemplates}
 use Rattle.table.specs.Sound.{SoundSum}
 use Rattle.table.proofs.TableFacts.{TemplateFacts, template-facts, sound-few, sound-go}
 use Rattle.plan_show.specs.Text.{ascii, decimal}
-use Rattle.plan_show.specs.Lines.{labelled, lastLabelled, staticSize, sumText, templateLine, templateLines, tableLines}
+use Rattle.plan_show.specs.Lines.{labelled, lastLabelled, sumText, templateLine, templateLines, tableLines}
 use Rattle.plan_show.specs.Lines.{idDigits, countDigits, offsetDigits, lineRoom, linesRoom}
 use Rattle.plan_show.proofs.Decimals.{length-decimal}
 use Rattle.plan_show.proofs.Rooms.{room-as}
-use Rattle.plan_show.proofs.Parts.{static-most, table-parts}
+use Rattle.table.proofs.StaticBytes.{static-most}
+use Rattle.plan_show.proofs.Parts.{table-parts}
 
 -- ---- a line
 

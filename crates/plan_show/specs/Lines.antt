@@ -5,7 +5,7 @@ use lib.ListN.{length}
 use Rattle.answer.specs.declared.Refusal.{Refusal}
 use Rattle.answer.specs.Number.{numberOf}
 use Rattle.table.specs.Limits.{maxTemplates}
-use Rattle.table.specs.Templates.{Piece, Sum, noSum, sumAt, Template}
+use Rattle.table.specs.Templates.{staticSize, Sum, noSum, sumAt, Template}
 use Rattle.table.specs.File.{Step, stop, found, planIn}
 use Rattle.plan_show.specs.Text.{ascii, decimal}
 
@@ -16,11 +16,6 @@ labelled label n = label ++ decimal n
 -- the same at the end of a line
 abbrev pub lastLabelled : List ℕ → ℕ → List ℕ
 lastLabelled label n = labelled label n ++ ascii "\n"
-
--- how many static bytes pieces hold
-abbrev pub staticSize : List Piece → ℕ
-staticSize [] = 0
-staticSize (p ∷ ps) = length (p .bytes) + staticSize ps
 
 -- field and start, or none
 abbrev pub sumText : Sum → List ℕ

@@ -15,7 +15,7 @@ ghost use Rattle.output.specs.Places.{Put};
 ghost use Rattle.table.specs.Words.{templateWords, tableWords, templateOf, templatesOf};
 ghost use Rattle.table.specs.Rules.{soundTemplates};
 ghost use Rattle.table.specs.Sound.{UsableTemplate, Usable};
-ghost use Rattle.plan_show.specs.Lines.{staticSize, sumText, templateLine, templateLines, tableLines, planLines};
+ghost use Rattle.plan_show.specs.Lines.{sumText, templateLine, templateLines, tableLines, planLines};
 
 // The most digits of a Context ID, of a count, and of an offset or a size.
 const ID_DIGITS: usize = 19;
@@ -83,29 +83,11 @@ fn put_template(out: &mut [u8], at: usize, t: &[u64]) -> usize
 {
     let head = table::head_of(t);
     let id = head.id;
-    let size = static_size(t);
+    let size = table::static_size(t);
     let segments = put_decimal(out, at, id.0);
     let bytes = put_labelled(out, segments, b" segments ", head.count as u64);
     let checksum = put_labelled(out, bytes, b" static ", size as u64);
     put_checksum(out, checksum, t)
-}
-
-// How many static bytes a template holds.
-fn static_size(t: &[u64]) -> usize
-    requires { ⌜ templateWords ≤ length (now t) ⌝ }
-    requires { ⌜ UsableTemplate (now t) ⌝ }
-    ensures { λ r. ⌜ r ≡ staticSize (templateOf (now (t .entry)) .pieces) ⌝ }
-{
-    let head = table::head_of(t);
-    let n = head.count;
-    let mut total: usize = 0;
-    let mut j: usize = 0;
-    while j < n {
-        let s = table::segment_at(t, j);
-        total += s.length;
-        j += 1;
-    }
-    total
 }
 
 // Field and start, or none; and the end of the line.

@@ -14,3 +14,4 @@ pub mod Bodies
 pub mod Encoded
 pub mod Written
 pub mod Packed
+pub mod StaticBytes

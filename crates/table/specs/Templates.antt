@@ -1,6 +1,6 @@
 -- What a template means: pieces, which hold the static bytes of a packet from an offset on, and the checksum to complete.
 use Prim.Native.Nat.{ℕ, _+_}
-use mathlib.Core.List.{List, map}
+use mathlib.Core.List.{List, [], _∷_, map}
 use lib.ListN.{length}
 use Rattle.table.specs.declared.Segment.{Segment}
 
@@ -11,6 +11,11 @@ pub record Piece : Type 0 where
 
 abbrev pub pieceEnd : Piece → ℕ
 pieceEnd p = p .offset + length (p .bytes)
+
+-- how many static bytes pieces hold
+abbrev pub staticSize : List Piece → ℕ
+staticSize [] = 0
+staticSize (p ∷ ps) = length (p .bytes) + staticSize ps
 
 -- the segment where a piece stands
 abbrev pub segmentOf : Piece → Segment

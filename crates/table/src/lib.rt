@@ -18,7 +18,9 @@ ghost use mathlib.Core.Path.{_≡_};
 ghost use Prim.Native.Nat.{_<_, _≤_};
 ghost use lib.ListN.{length};
 ghost use Rattle.table.specs.Limits.{maxSegments, staticLimit};
-ghost use Rattle.table.specs.Words.{templateWords, headOf, segmentAt, byteAt, fieldUnder};
+ghost use Rattle.table.specs.Templates.{staticSize};
+ghost use Rattle.table.specs.Words.{templateWords, headOf, segmentAt, byteAt, fieldUnder, templateOf};
+ghost use Rattle.table.specs.Sound.{UsableTemplate};
 
 pub const MAX_TEMPLATES: usize = 8;
 
@@ -98,6 +100,23 @@ pub fn segment_at(t: &[u64], j: usize) -> Segment
     let offset = t[at] as usize;
     let length = t[at + 1] as usize;
     Segment { offset, length }
+}
+
+// How many static bytes it holds.
+pub fn static_size(t: &[u64]) -> usize
+    requires { ⌜ templateWords ≤ length (now t) ⌝ }
+    requires { ⌜ UsableTemplate (now t) ⌝ }
+    ensures { λ r. ⌜ (r ≡ staticSize (templateOf (now (t .entry)) .pieces)) × (r ≤ staticLimit) ⌝ }
+{
+    let n = head_of(t).count;
+    let mut size: usize = 0;
+    let mut j: usize = 0;
+    while j < n {
+        let s = segment_at(t, j);
+        size += s.length;
+        j += 1;
+    }
+    size
 }
 
 // Its static byte of position p.

@@ -9,7 +9,8 @@ use Rattle.inet.specs.Transport.{seed, setField, finish}
 use Rattle.inet.proofs.FieldLaws.{put-take, setField-length}
 use Rattle.table.specs.Words.{templateOf, headOf}
 use Rattle.table.specs.declared.Head.{Head}
-use Rattle.template.specs.Pieces.{staticSize, weave}
+use Rattle.table.specs.Templates.{staticSize}
+use Rattle.template.specs.Pieces.{weave}
 use Rattle.template.specs.Datagrams.{maxPacket, seeded, rebuilt}
 use Rattle.template.specs.Usable.{piecesOf, Seedable, Rebuildable, Weavable, Completable, Begins}
 use Rattle.template.proofs.PieceLaws.{length-weave}

@@ -10,8 +10,7 @@ use borrow.Author.Tests.{le-leb, lt-leb, ne-eqb}
 use Rattle.answer.specs.declared.Refusal.the-variants.{UnknownContext, CutDatagram, PacketTooLong}
 use Rattle.varint.specs.declared.NumberRead.the-variants.{Whole, Cut}
 use Rattle.varint.specs.Numbers.{readNumber}
-use Rattle.table.specs.Templates.{Template}
-use Rattle.template.specs.Pieces.{staticSize}
+use Rattle.table.specs.Templates.{Template, staticSize}
 use Rattle.template.specs.Fits.{missing, listed, withId}
 use Rattle.template.specs.Datagrams.{maxPacket, rebuilt, reaches, packet, refused, opened}
 use Rattle.template.proofs.RebuildLaws.{length-rebuilt}

@@ -14,8 +14,8 @@ use Rattle.inet.specs.Packet.{put16}
 use Rattle.inet.specs.Transport.{setField}
 use Rattle.inet.proofs.FieldLaws.{put-length, put-drop, drop-put-from}
 use Rattle.table.specs.Sound.{Ascends, ClearOf}
-use Rattle.table.specs.Templates.{Piece, pieceEnd}
-use Rattle.template.specs.Pieces.{begins, fitsPieces, strip, weave, staticSize, lastEnd}
+use Rattle.table.specs.Templates.{Piece, pieceEnd, staticSize}
+use Rattle.template.specs.Pieces.{begins, fitsPieces, strip, weave, lastEnd}
 
 -- what begins with b is b and the rest
 begins-split : (b q : List ℕ) → begins b q ≡ true → b ++ drop (length b) q ≡ q

@@ -11,8 +11,8 @@ use Rattle.answer.proofs.Tests.{and-both}
 use Rattle.inet.specs.Transport.{seed, finish, completion}
 use Rattle.inet.proofs.FieldLaws.{setField-length, fieldIs-back}
 use Rattle.table.specs.Sound.{SoundSum, SoundTemplate}
-use Rattle.table.specs.Templates.{Piece, Sum, noSum, sumAt, Template}
-use Rattle.template.specs.Pieces.{fitsPieces, strip, weave, staticSize}
+use Rattle.table.specs.Templates.{Piece, Sum, noSum, sumAt, Template, staticSize}
+use Rattle.template.specs.Pieces.{fitsPieces, strip, weave}
 use Rattle.template.specs.Fits.{fitsSum, fits}
 use Rattle.template.specs.Datagrams.{seeded, completed, rebuilt, sumEnd, reaches}
 use Rattle.template.proofs.PieceLaws.{strip-weave, length-strip, length-weave, fits-end, fits-set}

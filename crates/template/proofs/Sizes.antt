@@ -10,11 +10,11 @@ use borrow.Author.Tests.{le-leb, lt-leb, leb-true}
 use Rattle.answer.proofs.Tests.{and-both}
 use Rattle.table.specs.Limits.{staticLimit}
 use Rattle.table.specs.Sound.{Ascends, UsableTemplate}
-use Rattle.table.specs.Templates.{Piece, pieceEnd}
+use Rattle.table.specs.Templates.{Piece, pieceEnd, staticSize}
 use Rattle.table.specs.Words.{window, segmentAt, templateOf, headOf}
 use Rattle.table.specs.declared.Head.{Head}
 use Rattle.table.specs.declared.Segment.{Segment}
-use Rattle.template.specs.Pieces.{staticSize, lastEnd}
+use Rattle.template.specs.Pieces.{lastEnd}
 use Rattle.template.specs.Datagrams.{sumEnd, reaches}
 use Rattle.template.specs.Usable.{piecesOf}
 use Rattle.template.proofs.Steps.{segmentEnd, piecesFrom, window-length, pieces-all, pieces-step, pieces-done, sum-facts}
@@ -29,9 +29,6 @@ pub end-limit : (ps : List Piece) (pos : ℕ) → Ascends pos ps → lastEnd pos
 unfolding Ascends
 end-limit [] pos a = a
 end-limit (s ∷ ss) pos a = end-limit ss (pieceEnd s) (a .1)
-
-pub static-limit : (t : List ℕ) → UsableTemplate t → staticSize (piecesOf t) ≤ staticLimit
-static-limit t u = omega (arith, static-end (piecesOf t) 0 (u .sound .ascends), end-limit (piecesOf t) 0 (u .sound .ascends))
 
 -- a segment that was read ends within the limit
 pub segment-within : (t : List ℕ) → UsableTemplate t → (j : ℕ) {s : Segment} → j < headOf t .count → s ≡ segmentAt t j → s .offset + s .length ≤ staticLimit

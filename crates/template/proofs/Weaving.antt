@@ -10,7 +10,8 @@ use Rattle.output.specs.Places.{Put}
 use Rattle.table.specs.Sound.{Ascends}
 use Rattle.table.specs.Words.{window, segmentAt, headOf}
 use Rattle.table.specs.declared.Segment.{Segment}
-use Rattle.template.specs.Pieces.{weave, staticSize, lastEnd}
+use Rattle.table.specs.Templates.{staticSize}
+use Rattle.template.specs.Pieces.{weave, lastEnd}
 use Rattle.template.specs.Usable.{piecesOf, Weavable, Begins}
 use Rattle.template.proofs.PieceLaws.{length-weave}
 use Rattle.template.proofs.Steps.{segmentEnd, piecesFrom, window-length, pieces-all, pieces-step, pieces-done}

@@ -11,8 +11,8 @@ use Rattle.varint.specs.declared.NumberRead.{NumberRead}
 use Rattle.varint.specs.declared.NumberRead.the-variants.{Whole, Cut}
 use Rattle.varint.specs.Numbers.{readNumber, encode}
 use Rattle.inet.specs.Transport.{seed, setField, finish}
-use Rattle.table.specs.Templates.{Sum, noSum, sumAt, Template}
-use Rattle.template.specs.Pieces.{strip, weave, staticSize, lastEnd}
+use Rattle.table.specs.Templates.{Sum, noSum, sumAt, Template, staticSize}
+use Rattle.template.specs.Pieces.{strip, weave, lastEnd}
 use Rattle.template.specs.Fits.{Choice, full, short, firstFit, Lookup, missing, listed, withId}
 
 -- the most bytes of a packet

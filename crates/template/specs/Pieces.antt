@@ -27,11 +27,7 @@ unfoldable pub weave : ℕ → List Piece → List ℕ → List ℕ
 weave pos [] v = v
 weave pos (s ∷ ss) v = take (s .offset - pos) v ++ (s .bytes ++ weave (pieceEnd s) ss (drop (s .offset - pos) v))
 
--- how many bytes the pieces hold, and where the last of them ends
-abbrev pub staticSize : List Piece → ℕ
-staticSize [] = 0
-staticSize (s ∷ ss) = length (s .bytes) + staticSize ss
-
+-- where the last of the pieces ends
 abbrev pub lastEnd : ℕ → List Piece → ℕ
 lastEnd pos [] = pos
 lastEnd pos (s ∷ ss) = lastEnd (pieceEnd s) ss

@@ -6,12 +6,12 @@ use mathlib.Core.List.{List}
 use lib.ListN.{length, take}
 use Rattle.inet.specs.Packet.{Form}
 use Rattle.table.specs.Limits.{staticLimit}
-use Rattle.table.specs.Templates.{Piece}
+use Rattle.table.specs.Templates.{Piece, staticSize}
 use Rattle.table.specs.Words.{templateOf, countIn, wordsAt}
 use Rattle.table.specs.Sound.{UsableTemplate}
 use Rattle.template.specs.declared.Found.{Found}
 use Rattle.template.specs.declared.Found.the-variants.{At, Nothing}
-use Rattle.template.specs.Pieces.{staticSize, lastEnd}
+use Rattle.template.specs.Pieces.{lastEnd}
 use Rattle.template.specs.Fits.{Choice, full, short, Lookup, missing, listed}
 use Rattle.template.specs.Datagrams.{maxPacket, sumEnd, reaches}
 

@@ -6,7 +6,8 @@ ghost use Rattle.output.specs.Places.{Put};
 ghost use Rattle.table.specs.Limits.{staticLimit};
 ghost use Rattle.table.specs.Words.{templateWords, templateOf, window};
 ghost use Rattle.table.specs.Sound.{UsableTemplate};
-ghost use Rattle.template.specs.Pieces.{strip, weave, staticSize, lastEnd};
+ghost use Rattle.table.specs.Templates.{staticSize};
+ghost use Rattle.template.specs.Pieces.{strip, weave, lastEnd};
 ghost use Rattle.template.specs.Datagrams.{rebuilt, reaches};
 ghost use Rattle.template.specs.Usable.{piecesOf, Shortenable, Rebuildable, Weavable, Completable, Begins};
 ghost use Rattle.inet.specs.Transport.{setField, finish};
@@ -17,6 +18,7 @@ use output::put_bytes;
 use table::byte_at;
 use table::head_of;
 use table::segment_at;
+use table::static_size;
 
 // Writes the image's bytes outside the segments to out from the place at on, and returns the place behind them.
 pub fn shorten(t: &[u64], image: &[u8], out: &mut [u8], at: usize) -> usize
@@ -70,23 +72,6 @@ pub fn rebuilt_length(t: &[u64], body: &[u8]) -> usize
     ensures { λ r. ⌜ r ≡ staticSize (piecesOf (now (t .entry))) + length (now (body .entry)) ⌝ }
 {
     static_size(t) + body.len()
-}
-
-// How many bytes the segments hold.
-fn static_size(t: &[u64]) -> usize
-    requires { ⌜ templateWords ≤ length (now t) ⌝ }
-    requires { ⌜ UsableTemplate (now t) ⌝ }
-    ensures { λ r. ⌜ (r ≡ staticSize (piecesOf (now (t .entry)))) × (r ≤ staticLimit) ⌝ }
-{
-    let n = head_of(t).count;
-    let mut size: usize = 0;
-    let mut j: usize = 0;
-    while j < n {
-        let s = segment_at(t, j);
-        size += s.length;
-        j += 1;
-    }
-    size
 }
 
 // Where the last segment ends.

@@ -13,13 +13,12 @@ use Rattle.answer.specs.declared.Refusal.the-variants.{UnknownContext, CutDatag
 use Rattle.varint.specs.declared.NumberRead.the-variants.{Whole}
 use Rattle.varint.specs.Numbers.{readNumber}
 use Rattle.table.specs.Limits.{maxTemplates}
-use Rattle.table.specs.Templates.{Template}
+use Rattle.table.specs.Templates.{Template, staticSize}
 use Rattle.table.specs.Words.{templateOf, countIn, wordsAt}
 use Rattle.table.specs.Sound.{UsableTemplate, Usable}
 use Rattle.state.specs.State.{stateIn}
 use Rattle.template.specs.declared.Found.{Found}
 use Rattle.template.specs.declared.Found.the-variants.{At, Nothing}
-use Rattle.template.specs.Pieces.{staticSize}
 use Rattle.template.specs.Fits.{Lookup, listed, withId}
 use Rattle.template.specs.Datagrams.{maxPacket, rebuilt, reaches, Opened, refused, packet, withinLimit, openShort, opened}
 use Rattle.template.specs.Usable.{piecesOf, lookupAt, Listed, Rebuildable, Begins}

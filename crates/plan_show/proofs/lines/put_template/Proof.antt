@@ -15,7 +15,7 @@ put-decimal-requires c κs =
     let s = c .before .before .before .before .before .before in
     let h = c .before .before .before .head-of in
     let z = c .before .static-size in
-    id-room (s .args .t .now) (h .ensures) (z .ensures) (s .args .at) (s .args .out .now) (s .pre .1 .1)
+    id-room (s .args .t .now) (h .ensures) (z .ensures .0) (s .args .at) (s .args .out .now) (s .pre .1 .1)
 
 slice-aggregate-put-labelled : tie.Need-slice-aggregate-put-labelled
 slice-aggregate-put-labelled c = search needs
@@ -25,7 +25,7 @@ put-labelled-requires c κs =
     let s = c .before .before .before .before .before .before .before .before .before .before .before in
     let h = c .before .before .before .before .before .before .before .before .head-of in
     let z = c .before .before .before .before .before .before .static-size in
-    segments-room (s .args .t .now) (h .ensures) (z .ensures) (s .args .at) (s .args .out .now) (s .pre .1 .1) (c .before .before .before .before .put-decimal .ensures)
+    segments-room (s .args .t .now) (h .ensures) (z .ensures .0) (s .args .at) (s .args .out .now) (s .pre .1 .1) (c .before .before .before .before .put-decimal .ensures)
 
 slice-aggregate-put-labelled-2 : tie.Need-slice-aggregate-put-labelled-2
 slice-aggregate-put-labelled-2 c = search needs
@@ -35,20 +35,20 @@ put-labelled-requires-2 c κs =
     let s = c .before .before .before .before .before .before .before .before .before .before .before .before .before .before .before .before in
     let h = c .before .before .before .before .before .before .before .before .before .before .before .before .before .head-of in
     let z = c .before .before .before .before .before .before .before .before .before .before .before .static-size in
-    static-room (s .args .t .now) (h .ensures) (z .ensures) (s .args .at) (s .args .out .now) (s .pre .1 .1) (c .before .before .before .before .before .before .before .before .before .put-decimal .ensures) (c .before .before .before .before .put-labelled .ensures)
+    static-room (s .args .t .now) (h .ensures) (z .ensures .0) (s .args .at) (s .args .out .now) (s .pre .1 .1) (c .before .before .before .before .before .before .before .before .before .put-decimal .ensures) (c .before .before .before .before .put-labelled .ensures)
 
 put-checksum-requires : tie.Need-put-checksum-requires
 put-checksum-requires c κs =
     let s = c .before .before .before .before .before .before .before .before .before .before .before .before .before .before .before .before .before .before .before .before in
     let h = c .before .before .before .before .before .before .before .before .before .before .before .before .before .before .before .before .before .head-of in
     let z = c .before .before .before .before .before .before .before .before .before .before .before .before .before .before .before .static-size in
-    (s .pre .0, sum-room (s .args .t .now) (h .ensures) (z .ensures) (s .args .at) (s .args .out .now) (s .pre .1 .1) (c .before .before .before .before .before .before .before .before .before .before .before .before .before .put-decimal .ensures) (c .before .before .before .before .before .before .before .before .put-labelled .ensures) (c .before .before .before .put-labelled2 .ensures))
+    (s .pre .0, sum-room (s .args .t .now) (h .ensures) (z .ensures .0) (s .args .at) (s .args .out .now) (s .pre .1 .1) (c .before .before .before .before .before .before .before .before .before .before .before .before .before .put-decimal .ensures) (c .before .before .before .before .before .before .before .before .put-labelled .ensures) (c .before .before .before .put-labelled2 .ensures))
 
 same-length : tie.Need-same-length
 same-length c = search needs
 
 returns : tie.Need-returns
-returns c = put-line (c .before .before .before .before .before .before .before .before .before .before .before .before .before .before .before .before .before .before .before .before .before .before .before .args .t .now) (c .before .before .before .before .before .before .before .before .before .before .before .before .before .before .before .before .before .before .before .before .head-of .ensures) (c .before .before .before .before .before .before .before .before .before .before .before .before .before .before .before .before .before .before .static-size .ensures) (c .before .before .before .before .before .before .before .before .before .before .before .before .before .before .before .before .put-decimal .ensures) (c .before .before .before .before .before .before .before .before .before .before .before .put-labelled .ensures) (c .before .before .before .before .before .before .put-labelled2 .ensures) (c .before .before .put-checksum .ensures)
+returns c = put-line (c .before .before .before .before .before .before .before .before .before .before .before .before .before .before .before .before .before .before .before .before .before .before .before .args .t .now) (c .before .before .before .before .before .before .before .before .before .before .before .before .before .before .before .before .before .before .before .before .head-of .ensures) (c .before .before .before .before .before .before .before .before .before .before .before .before .before .before .before .before .before .before .static-size .ensures .0) (c .before .before .before .before .before .before .before .before .before .before .before .before .before .before .before .before .put-decimal .ensures) (c .before .before .before .before .before .before .before .before .before .before .before .put-labelled .ensures) (c .before .before .before .before .before .before .put-labelled2 .ensures) (c .before .before .put-checksum .ensures)
 
 pub put-template-spec : {M : Type 1} → statement M
 put-template-spec =

@@ -1,16 +1,16 @@
--- The invariant: what is added and what is left are all of it (`Adding`).
+-- The invariant: what is added and what is left are all of it (`Adding`). Assumes nothing.
 use Prim.Native.Nat.{_-_}
 use native.Mathlib.Omega.{arith}
-use Rattle.plan_show.proofs.Parts.{Adding, adding-none, adding-fits, adding-more, adding-done, few-segments}
+use Rattle.table.proofs.StaticBytes.{Adding, adding-none, adding-fits, adding-more, adding-done, adding-most, few-segments}
 use borrow.Author.Needs.{needs}
-use Rattle.plan_show.proofs.lines.static_size.Statement.{statement}
-use Rattle.plan_show.proofs.lines.static_size.Tie as tie
+use Rattle.table.proofs.static_size.Statement.{statement}
+use Rattle.table.proofs.static_size.Tie as tie
 
 abbrev Inv-loop : tie.InvT-loop
-Inv-loop t n total₀ j₀ total j = Adding t n total j
+Inv-loop t n size₀ j₀ size j = Adding t n size j
 
 abbrev μ-loop : tie.MeasureT-loop
-μ-loop t n total₀ j₀ total j = n - j
+μ-loop t n size₀ j₀ size j = n - j
 
 head-of-requires : tie.Need-head-of-requires Inv-loop μ-loop
 head-of-requires c κs = search needs
@@ -23,8 +23,8 @@ segment-at-requires c κs =
     let s = c .before .before .before .before in
     (s .pre .0, omega (arith, c .loop-test .taken, few-segments (s .args .t .now) (c .before .before .head-of .ensures) (s .pre .1)))
 
-add-total : tie.Need-add-total Inv-loop μ-loop
-add-total c = omega (arith, adding-fits (c .before .before .before .loop .inv) (c .before .before .loop-test .taken) (c .before .segment-at .ensures) (c .before .before .before .before .before .before .pre .1))
+add-size : tie.Need-add-size Inv-loop μ-loop
+add-size c = omega (arith, adding-fits (c .before .before .before .loop .inv) (c .before .before .loop-test .taken) (c .before .segment-at .ensures) (c .before .before .before .before .before .before .pre .1))
 
 add-j : tie.Need-add-j Inv-loop μ-loop
 add-j c = omega (arith)
@@ -36,7 +36,7 @@ loop-again : tie.Need-loop-again Inv-loop μ-loop
 loop-again c = adding-more (c .before .before .before .loop .inv) (c .before .before .loop-test .taken) (c .before .segment-at .ensures)
 
 returns : tie.Need-returns Inv-loop μ-loop
-returns c = adding-done (c .before .loop .inv) (c .loop-test .left)
+returns c = (adding-done (c .before .loop .inv) (c .loop-test .left), adding-most (c .before .loop .inv) (c .before .before .before .before .pre .1))
 
 pub static-size-spec : {M : Type 1} → statement M
 static-size-spec =
@@ -47,7 +47,7 @@ static-size-spec =
     head-of-requires
     loop-holds
     segment-at-requires
-    add-total
+    add-size
     add-j
     loop-less
     loop-again
