@@ -10,7 +10,7 @@ use lib.ListN.{length, length-append}
 use Rattle.answer.proofs.Tests.{true-or-false}
 use Rattle.octets.specs.Big.{digits}
 use Rattle.octets.proofs.BigLaws.{length-digits}
-use Rattle.varint.specs.Numbers.{encode, encodedSize}
+use Rattle.varint.specs.Numbers.{room, encode, encodedSize}
 use Rattle.varint.proofs.Encoding.{length-encode, size-bounds}
 use Rattle.lists.specs.declared.AddressEntry.{AddressEntry}
 use Rattle.lists.specs.declared.RouteRange.{RouteRange}
@@ -19,6 +19,11 @@ use Rattle.capsule.specs.Entries.{addressBytes, entryBytes, endsBytes, rangeByt
 use Rattle.output.specs.Places.{Put}
 use Rattle.output.proofs.Placing.{put-then}
 use Rattle.capsule_write.specs.Sizes.{maxEntry, maxRange}
+
+-- ---- numbers
+
+pub encode-most : (v : ℕ) → length (encode v) ≤ room
+encode-most v = omega (arith, length-encode v, size-bounds v)
 
 -- a version is 4, or not
 four-or-not : (v : ℕ) → (v ≡ 4) ⊎ (v ≡ 4 → ⊥)

@@ -1,4 +1,3 @@
-pub mod Placing
 pub mod Judging
 pub mod Lengths
 pub mod Values

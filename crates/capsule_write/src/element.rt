@@ -1,5 +1,4 @@
 // The bytes of one element, and how many they are.
-use crate::place;
 use lists::AddressEntry;
 use lists::RouteRange;
 ghost use mathlib.Core.Path.{_≡_};
@@ -17,7 +16,7 @@ pub(crate) fn put_entry_bytes(out: &mut [u8], at: usize, e: AddressEntry) -> usi
     ensures { λ r. ⌜ Put (entryBytes e) at (now (out .entry)) r (now (out .exit)) ⌝ }
 {
     let id = e.request_id;
-    let version = place::put_number(out, at, id.0);
+    let version = varint::put_number(out, at, id.0);
     let address = output::put_byte(out, version, e.version);
     let prefix = put_address(out, address, e);
     output::put_byte(out, prefix, e.prefix)
@@ -28,10 +27,10 @@ fn put_address(out: &mut [u8], at: usize, e: AddressEntry) -> usize
     ensures { λ r. ⌜ Put (addressBytes e) at (now (out .entry)) r (now (out .exit)) ⌝ }
 {
     if e.version == 4 {
-        return place::put_digits(out, at, 4, e.lo);
+        return output::put_digits(out, at, 4, e.lo);
     }
-    let low = place::put_digits(out, at, 8, e.hi);
-    place::put_digits(out, low, 8, e.lo)
+    let low = output::put_digits(out, at, 8, e.hi);
+    output::put_digits(out, low, 8, e.lo)
 }
 
 pub(crate) fn entry_size(e: AddressEntry) -> usize
@@ -60,13 +59,13 @@ fn put_ends(out: &mut [u8], at: usize, r: RouteRange) -> usize
     ensures { λ p. ⌜ Put (endsBytes r) at (now (out .entry)) p (now (out .exit)) ⌝ }
 {
     if r.version == 4 {
-        let end = place::put_digits(out, at, 4, r.start_lo);
-        return place::put_digits(out, end, 4, r.end_lo);
+        let end = output::put_digits(out, at, 4, r.start_lo);
+        return output::put_digits(out, end, 4, r.end_lo);
     }
-    let a = place::put_digits(out, at, 8, r.start_hi);
-    let b = place::put_digits(out, a, 8, r.start_lo);
-    let c = place::put_digits(out, b, 8, r.end_hi);
-    place::put_digits(out, c, 8, r.end_lo)
+    let a = output::put_digits(out, at, 8, r.start_hi);
+    let b = output::put_digits(out, a, 8, r.start_lo);
+    let c = output::put_digits(out, b, 8, r.end_hi);
+    output::put_digits(out, c, 8, r.end_lo)
 }
 
 pub(crate) fn range_size(r: RouteRange) -> usize

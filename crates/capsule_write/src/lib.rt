@@ -4,7 +4,6 @@
 mod element;
 mod judge;
 mod list;
-mod place;
 
 use answer::Answer;
 use answer::Refusal;
@@ -110,8 +109,8 @@ fn put_header(out: &mut [u8], kind: u64, size: usize) -> usize
     requires { ⌜ (kind ≤ 3) × (size ≤ maxValue) × (capsuleRoom ≤ length (now out)) ⌝ }
     ensures { λ r. ⌜ Put (encode kind ++ encode size) 0 (now (out .entry)) r (now (out .exit)) ⌝ }
 {
-    let length = place::put_number(out, 0, kind);
-    place::put_number(out, length, size as u64)
+    let length = varint::put_number(out, 0, kind);
+    varint::put_number(out, length, size as u64)
 }
 
 // A capsule of a sound list of entries.

@@ -1,17 +1,19 @@
 -- Two numbers one after the other, with room for a number of any form at each.
 use native.Mathlib.Omega.{arith}
 use Rattle.output.proofs.Placing.{put-then}
-use Rattle.capsule_write.proofs.Placing.{encode-most}
+use Rattle.varint.proofs.Encoding.{size-bounds}
+use Rattle.capsule_write.proofs.Lengths.{encode-most}
 use borrow.Author.Needs.{needs}
 use Rattle.capsule_write.proofs.put_header.Statement.{statement}
 use Rattle.capsule_write.proofs.put_header.Tie as tie
 
 put-number-requires : tie.Need-put-number-requires
-put-number-requires c κs = search needs
+put-number-requires c κs = (omega (arith, size-bounds (c .before .before .args .kind) .1), omega arith)
 
 put-number-requires-2 : tie.Need-put-number-requires-2
 put-number-requires-2 c κs =
-    omega (arith, encode-most (c .before .before .before .before .before .before .args .kind))
+    let a = c .before .before .before .before .before .before .args in
+    (omega (arith, encode-most (a .kind), size-bounds (a .size) .1), omega arith)
 
 same-length : tie.Need-same-length
 same-length c = search needs

@@ -1,14 +1,14 @@
 -- The four parts one after the other, by `put-entry`; the bounds of the parts leave room for each.
 use Rattle.lists.specs.Rules.{idOf}
 use native.Mathlib.Omega.{arith}
-use Rattle.capsule_write.proofs.Placing.{encode-most}
-use Rattle.capsule_write.proofs.Lengths.{address-most, put-entry}
+use Rattle.varint.proofs.Encoding.{size-bounds}
+use Rattle.capsule_write.proofs.Lengths.{encode-most, address-most, put-entry}
 use borrow.Author.Needs.{needs}
 use Rattle.capsule_write.proofs.element.put_entry_bytes.Statement.{statement}
 use Rattle.capsule_write.proofs.element.put_entry_bytes.Tie as tie
 
 put-number-requires : tie.Need-put-number-requires
-put-number-requires c κs = search needs
+put-number-requires c κs = let s = c .before .before .before in (omega (arith, s .pre .1, size-bounds (idOf (s .args .e)) .1), s .pre .0)
 
 put-byte-requires : tie.Need-put-byte-requires
 put-byte-requires c κs =
