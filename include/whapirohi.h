@@ -36,18 +36,22 @@ enum {
     WHAPIROHI_PLAN_WORDS = 1 + WHAPIROHI_MAX_TEMPLATES * WHAPIROHI_TEMPLATE_WORDS
 };
 
+/* The most bytes of a packet and of a capsule's value, and the room for a capsule's type and length. */
+enum { WHAPIROHI_MAX_PACKET = 1500, WHAPIROHI_MAX_VALUE = 4096, WHAPIROHI_HEADER_ROOM = 8 };
+
 /* The least lent outputs. */
 enum {
     WHAPIROHI_NUMBER_ROOM = 8,
     WHAPIROHI_PLAN_ROOM = 1400,
-    WHAPIROHI_RECEIVE_ROOM = 1500,
-    WHAPIROHI_SEND_ROOM = 1508,
-    WHAPIROHI_CAPSULE_ROOM = 4104
+    WHAPIROHI_RECEIVE_ROOM = WHAPIROHI_MAX_PACKET,
+    WHAPIROHI_SEND_ROOM = WHAPIROHI_NUMBER_ROOM + WHAPIROHI_MAX_PACKET,
+    WHAPIROHI_CAPSULE_ROOM = WHAPIROHI_MAX_VALUE + WHAPIROHI_HEADER_ROOM
 };
 
 /* The state is one array of words in these parts, in this order.
- * The plan in words: the count of templates, then 149 words a template: Context ID, count of segments, 1 with a checksum and 0 without,
- * field, start, 8 segments of two words (offset, length), and 128 words with a static byte each: that of position p of a packet is word p.
+ * The plan in words: the count of templates, then WHAPIROHI_TEMPLATE_WORDS a template: Context ID, count of segments, 1 with a checksum and 0 without,
+ * field, start, WHAPIROHI_MAX_SEGMENTS segments of two words (offset, length), and WHAPIROHI_STATIC_LIMIT words with a static byte each: that of
+ * position p of a packet is word p.
  * A third word that is neither breaks the plan's rules. Bits above a static byte, templates and segments past their counts, bytes outside all segments, and
  * field and start without a checksum mean nothing; they are 0 in a plan that the box reads. */
 typedef struct whapirohi_state {

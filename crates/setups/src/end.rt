@@ -2,8 +2,11 @@
 use answer::Answer;
 use answer::Verdict;
 use capsule::CapsuleRead;
+use capsule_write::CAPSULE_ROOM;
 use lists::ADDRESS_WORDS;
 use state::STATE_WORDS;
+use tunnel::RECEIVE_ROOM;
+use tunnel::SEND_ROOM;
 
 // The two capsules that came on the stream.
 pub(crate) fn reads_two(name: &[u8], state: &mut [u64; STATE_WORDS], stream: &[u8]) {
@@ -26,26 +29,26 @@ pub(crate) fn reads(
 
 // The value of an ADDRESS_ASSIGN, to be written.
 pub(crate) fn assigns(name: &[u8], state: &mut [u64; STATE_WORDS], value: &[u8]) {
-    let mut out = [0u8; 4104];
+    let mut out = [0u8; CAPSULE_ROOM];
     let a = exchange::assign(state, value, &mut out);
     line(name, a, &out);
 }
 
 // The value of a ROUTE_ADVERTISEMENT, to be written.
 pub(crate) fn advertises(name: &[u8], state: &mut [u64; STATE_WORDS], value: &[u8]) {
-    let mut out = [0u8; 4104];
+    let mut out = [0u8; CAPSULE_ROOM];
     let a = exchange::advertise(state, value, &mut out);
     line(name, a, &out);
 }
 
 pub(crate) fn sends<'a>(name: &'a [u8], state: &'a [u64; STATE_WORDS], packet: &'a [u8]) {
-    let mut out = [0u8; 1508];
+    let mut out = [0u8; SEND_ROOM];
     let a = tunnel::send(state, packet, &mut out);
     line(name, a, &out);
 }
 
 pub(crate) fn receives<'a>(name: &'a [u8], state: &'a [u64; STATE_WORDS], datagram: &'a [u8]) {
-    let mut out = [0u8; 1500];
+    let mut out = [0u8; RECEIVE_ROOM];
     let a = tunnel::receive(state, datagram, &mut out);
     line(name, a, &out);
 }

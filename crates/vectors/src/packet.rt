@@ -1,8 +1,12 @@
 // Packets from a tablet and datagrams from the link, with grants and templates that came as capsules and files.
 use answer::Answer;
+use capsule_write::CAPSULE_ROOM;
 use lists::ADDRESS_WORDS;
 use state::GIVEN_AT;
 use state::STATE_WORDS;
+use template::MAX_PACKET;
+use tunnel::RECEIVE_ROOM;
+use tunnel::SEND_ROOM;
 
 pub(crate) fn packets() {
     let mut near = [0u64; STATE_WORDS];
@@ -34,7 +38,7 @@ fn receive_grants(state: &mut [u64; STATE_WORDS]) {
 
 // The other end gave that.
 fn give_grants(state: &mut [u64; STATE_WORDS]) {
-    let mut out = [0u8; 4104];
+    let mut out = [0u8; CAPSULE_ROOM];
     exchange::assign(state, b"\x00\x04\xc0\x00\x02\x03\x20", &mut out);
     exchange::advertise(state, b"\x04\xc6\x33\x64\x02\xc6\x33\x64\x02\x11", &mut out);
 }
@@ -135,7 +139,7 @@ fn sent_judged(state: &[u64; STATE_WORDS]) {
 fn sent_limits(state: &[u64; STATE_WORDS]) {
     let longest = longest_packet();
     counted(b"1500 bytes", state, &longest);
-    let long = [0u8; 1501];
+    let long = [0u8; MAX_PACKET + 1];
     sent(b"1501 bytes", state, &long);
     sent_broken(
         b"broken list",
@@ -227,8 +231,8 @@ fn received_judged(near: &[u64; STATE_WORDS], far: &[u64; STATE_WORDS]) {
 }
 
 // A packet of 1,500 bytes.
-fn longest_packet() -> [u8; 1500] {
-    let mut p = [0u8; 1500];
+fn longest_packet() -> [u8; MAX_PACKET] {
+    let mut p = [0u8; MAX_PACKET];
     p[0] = 0x45;
     p[2] = 0x05;
     p[3] = 0xdc;
@@ -254,12 +258,12 @@ fn broken(state: &[u64; STATE_WORDS]) -> [u64; STATE_WORDS] {
 }
 
 // 0, and 1,501 bytes.
-fn long_datagram() -> [u8; 1502] {
-    [0u8; 1502]
+fn long_datagram() -> [u8; MAX_PACKET + 2] {
+    [0u8; MAX_PACKET + 2]
 }
 
 fn sent<'a>(name: &'a [u8], state: &'a [u64; STATE_WORDS], packet: &'a [u8]) {
-    let mut out = [0u8; 1508];
+    let mut out = [0u8; SEND_ROOM];
     let a = tunnel::send(state, packet, &mut out);
     shown(name, a, &out);
 }
@@ -271,7 +275,7 @@ fn sent_broken<'a>(name: &'a [u8], state: &'a [u64; STATE_WORDS], packet: &'a [u
 
 // How many bytes are written.
 fn counted<'a>(name: &'a [u8], state: &'a [u64; STATE_WORDS], packet: &'a [u8]) {
-    let mut out = [0u8; 1508];
+    let mut out = [0u8; SEND_ROOM];
     let a = tunnel::send(state, packet, &mut out);
     print::text(name);
     print::text(b": number ");
@@ -283,13 +287,13 @@ fn counted<'a>(name: &'a [u8], state: &'a [u64; STATE_WORDS], packet: &'a [u8]) 
 
 // An output that is one byte too small.
 fn small<'a>(name: &'a [u8], state: &'a [u64; STATE_WORDS], packet: &'a [u8]) {
-    let mut out = [0u8; 1507];
+    let mut out = [0u8; SEND_ROOM - 1];
     let a = tunnel::send(state, packet, &mut out);
     shown(name, a, &out);
 }
 
 fn received<'a>(name: &'a [u8], state: &'a [u64; STATE_WORDS], datagram: &'a [u8]) {
-    let mut out = [0u8; 1500];
+    let mut out = [0u8; RECEIVE_ROOM];
     let a = tunnel::receive(state, datagram, &mut out);
     shown(name, a, &out);
 }
@@ -300,7 +304,7 @@ fn received_broken<'a>(name: &'a [u8], state: &'a [u64; STATE_WORDS], datagram: 
 }
 
 fn received_small<'a>(name: &'a [u8], state: &'a [u64; STATE_WORDS], datagram: &'a [u8]) {
-    let mut out = [0u8; 1499];
+    let mut out = [0u8; RECEIVE_ROOM - 1];
     let a = tunnel::receive(state, datagram, &mut out);
     shown(name, a, &out);
 }

@@ -1,5 +1,6 @@
 // Plan files: read, and those that are good written again.
 use answer::Verdict;
+use plan_write::PLAN_ROOM;
 use table::TABLE_WORDS;
 
 pub(crate) fn plans() {
@@ -112,7 +113,7 @@ fn plan_file(name: &[u8], bytes: &[u8]) {
 }
 
 fn written(words: &[u64; TABLE_WORDS]) {
-    let mut out = [0u8; 1400];
+    let mut out = [0u8; PLAN_ROOM];
     let a = plan_write::write_plan(words, &mut out);
     print::text(b" written ");
     print::written(a, &out);

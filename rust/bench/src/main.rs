@@ -8,7 +8,7 @@ use std::time::{Duration, Instant};
 use whapirohi_differential::subject::Subject;
 use whapirohi_differential::words::{mirrored, state_of};
 use whapirohi_reference::list::{MAX_ADDRESSES, MAX_RANGES};
-use whapirohi_reference::packet::{complete, fold, put_word, seed, sum};
+use whapirohi_reference::packet::{complete, fold, put_word, seed, sum, MAX_PACKET};
 use whapirohi_reference::plan::MAX_TEMPLATES;
 use whapirohi_reference::{
     receive, send, write_assign, write_datagram, write_routes, AddressEntry, AddressList, Checksum, ContextId, Grants,
@@ -37,7 +37,7 @@ fn main() {
     println!("| call | packet | templates | lists | proved | Rust | ratio |");
     println!("|---|---:|---|---|---:|---:|---:|");
     for (lists, grants) in [("1", grants(1, 1)), ("full", grants(MAX_ADDRESSES, MAX_RANGES))] {
-        for length in [64, 576, 1500] {
+        for length in [64, 576, MAX_PACKET] {
             for templates in [0, 1, MAX_TEMPLATES] {
                 tunnel_rows(lists, &grants, length, &templates.to_string(), &plan(templates, Miss::EarlierPorts));
             }
@@ -184,7 +184,7 @@ fn capsule_rows(lists: &str, held: &Grants) {
     capsules.push(("assign of 16 IPv6 addresses", out[..length].to_vec()));
     let length = write_routes(&full.received_routes, &mut out).unwrap();
     capsules.push(("advertisement of 64 IPv6 ranges", out[..length].to_vec()));
-    let length = write_datagram(&packet(1500), &mut out).unwrap();
+    let length = write_datagram(&packet(MAX_PACKET), &mut out).unwrap();
     capsules.push(("datagram of 1,500 bytes", out[..length].to_vec()));
     for (name, bytes) in capsules {
         // Each reading starts from the lists that the one before left: the first replaces them, then they are as long as the capsule's.

@@ -7,8 +7,11 @@ use crate::{AddressEntry, AddressList, Refusal, RequestId, RouteList, RouteRange
 /// The largest value of a capsule of types 0 to 3.
 pub const MAX_VALUE: usize = 4096;
 
+/// The room for type and length.
+const HEADER_ROOM: usize = 8;
+
 /// The least output lent for a capsule.
-pub const CAPSULE_ROOM: usize = 4104;
+pub const CAPSULE_ROOM: usize = MAX_VALUE + HEADER_ROOM;
 
 pub(crate) const DATAGRAM: u64 = 0;
 pub(crate) const ADDRESS_ASSIGN: u64 = 1;

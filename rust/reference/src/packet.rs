@@ -1,5 +1,6 @@
 //! IP packets: form, header facts, hop count, and the RFC 1071 sums.
 
+/// The most bytes of a packet.
 pub const MAX_PACKET: usize = 1500;
 
 const UDP: u8 = 17;

@@ -1,15 +1,15 @@
 //! Packets sent as datagrams and received from them.
 
-use crate::number;
+use crate::number::{self, NUMBER_ROOM};
 use crate::packet::{complete, is_udp, lower, put_word, seed, sum, sum_joined, word_at, Header, MAX_PACKET};
 use crate::plan::{Plan, Template, STATIC_LIMIT};
 use crate::{Grants, Refusal};
 
-/// The least output lent for sending.
-pub const SEND_ROOM: usize = 1508;
+/// The least output lent for sending: a Context ID and a packet.
+pub const SEND_ROOM: usize = NUMBER_ROOM + MAX_PACKET;
 
-/// The least output lent for receiving.
-pub const RECEIVE_ROOM: usize = 1500;
+/// The least output lent for receiving: a packet.
+pub const RECEIVE_ROOM: usize = MAX_PACKET;
 
 /// Sends a packet: its hop count lowered, in the short form of the first template that fits, or in full.
 pub fn send(grants: &Grants, plan: &Plan, packet: &[u8], out: &mut [u8]) -> Result<usize, Refusal> {

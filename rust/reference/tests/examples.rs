@@ -1,7 +1,10 @@
 //! The drivers' examples of the paper, and the numbers of RFC 9000 appendix A.1.
 
+use whapirohi_reference::capsule::CAPSULE_ROOM;
 use whapirohi_reference::list::{MAX_ADDRESSES, MAX_RANGES};
 use whapirohi_reference::packet::{self, Header};
+use whapirohi_reference::plan::PLAN_ROOM;
+use whapirohi_reference::tunnel::{RECEIVE_ROOM, SEND_ROOM};
 use whapirohi_reference::*;
 
 fn hex(text: &str) -> Vec<u8> {
@@ -41,17 +44,22 @@ const LOWERED: &str = "45 00 00 1C 00 00 00 00 3F 11 8F 98 C0 00 02 03 C6 33 64 
 const PLAN: &str = "56 41 4E 00 01 01 02 01 0C 0C C0 00 02 03 C6 33 64 02 03 E8 07 D0 01 1A 14";
 
 fn sent(plan: &Plan, packet: &[u8]) -> Result<Vec<u8>, Refusal> {
-    let mut out = [0xAA; 1508];
+    let mut out = [0xAA; SEND_ROOM];
     let length = send(&grants(), plan, packet, &mut out)?;
     assert!(out[length..].iter().all(|b| *b == 0xAA));
     Ok(out[..length].to_vec())
 }
 
 fn received(plan: &Plan, datagram: &[u8]) -> Result<Vec<u8>, Refusal> {
-    let mut out = [0xAA; 1500];
+    let mut out = [0xAA; RECEIVE_ROOM];
     let length = receive(&grants().mirrored(), plan, datagram, &mut out)?;
     assert!(out[length..].iter().all(|b| *b == 0xAA));
     Ok(out[..length].to_vec())
+}
+
+#[test]
+fn rooms_of_the_paper() {
+    assert_eq!((SEND_ROOM, RECEIVE_ROOM, CAPSULE_ROOM, PLAN_ROOM), (1508, 1500, 4104, 1400));
 }
 
 #[test]
@@ -185,11 +193,11 @@ fn hop_counts() {
 #[test]
 fn one_plan_has_one_file() {
     let plan = read_plan(&hex(PLAN)).unwrap();
-    let mut out = [0xAA; 1400];
+    let mut out = [0xAA; PLAN_ROOM];
     assert_eq!(write_plan(&plan, &mut out), Ok(hex(PLAN).len()));
     assert_eq!(out[..25], hex(PLAN));
     assert!(out[25..].iter().all(|b| *b == 0xAA));
-    assert_eq!(write_plan(&plan, &mut out[..1399]), Err(Refusal::NoRoom));
+    assert_eq!(write_plan(&plan, &mut out[..PLAN_ROOM - 1]), Err(Refusal::NoRoom));
     for cut in 0..25 {
         assert_eq!(read_plan(&hex(PLAN)[..cut]), Err(Refusal::PlanCut));
     }
@@ -270,10 +278,10 @@ fn broken_state_is_9() {
     let mut broken = grants();
     broken.given_addresses = list(&[entry("192.0.2.3", 31)]);
     let plan = Plan::default();
-    assert_eq!(send(&broken, &plan, &hex(PACKET), &mut [0; 1508]), Err(Refusal::BrokenState));
-    assert_eq!(send(&broken, &plan, &hex(PACKET), &mut [0; 1507]), Err(Refusal::NoRoom));
-    assert_eq!(receive(&broken, &plan, &[], &mut [0; 1500]), Err(Refusal::BrokenState));
+    assert_eq!(send(&broken, &plan, &hex(PACKET), &mut [0; SEND_ROOM]), Err(Refusal::BrokenState));
+    assert_eq!(send(&broken, &plan, &hex(PACKET), &mut [0; SEND_ROOM - 1]), Err(Refusal::NoRoom));
+    assert_eq!(receive(&broken, &plan, &[], &mut [0; RECEIVE_ROOM]), Err(Refusal::BrokenState));
     assert_eq!(broken.read_capsule(&Plan::default(), &[], 0), Err(Refusal::BrokenState));
-    assert_eq!(broken.write_assign(&Plan::default(), &list(&[]), &mut [0; 4104]), Err(Refusal::BrokenState));
-    assert_eq!(broken.write_assign(&Plan::default(), &list(&[]), &mut [0; 4103]), Err(Refusal::NoRoom));
+    assert_eq!(broken.write_assign(&Plan::default(), &list(&[]), &mut [0; CAPSULE_ROOM]), Err(Refusal::BrokenState));
+    assert_eq!(broken.write_assign(&Plan::default(), &list(&[]), &mut [0; CAPSULE_ROOM - 1]), Err(Refusal::NoRoom));
 }

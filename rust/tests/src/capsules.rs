@@ -2,9 +2,9 @@
 
 use crate::lists::{ordered_ranges, sound_entry};
 use crate::random::Random;
+use whapirohi_reference::capsule::MAX_VALUE;
+use whapirohi_reference::packet::MAX_PACKET;
 use whapirohi_reference::{AddressEntry, RouteRange};
-
-const MAX_VALUE: usize = 4096;
 
 /// A number in its shortest form, or in one that is longer by `longer` steps where there is one.
 pub fn number_form(value: u64, longer: usize) -> Vec<u8> {
@@ -161,7 +161,7 @@ pub fn capsule(random: &mut Random) -> Vec<u8> {
     let (kind, value) = match random.below(12) {
         0 | 1 => {
             let length = match random.below(4) {
-                0 => random.pick(&[0, 1, 63, 64, 1500, 4095, 4096, 4097, 4098]),
+                0 => random.pick(&[0, 1, 63, 64, MAX_PACKET, MAX_VALUE - 1, MAX_VALUE, MAX_VALUE + 1, MAX_VALUE + 2]),
                 1 => random.below(5000),
                 _ => random.below(100),
             };
@@ -171,7 +171,7 @@ pub fn capsule(random: &mut Random) -> Vec<u8> {
         5..=7 => (2, address_value(random, true)),
         8..=10 => (3, route_value(random)),
         _ => {
-            let length = random.pick(&[0, 1, 10, 63, 64, 4096, 4097, 5000, 17000]);
+            let length = random.pick(&[0, 1, 10, 63, 64, MAX_VALUE, MAX_VALUE + 1, 5000, 17000]);
             (random.edge_number().max(4), random.bytes(length))
         }
     };
@@ -179,7 +179,7 @@ pub fn capsule(random: &mut Random) -> Vec<u8> {
         0 => value.len() as u64 + 1,
         1 => (value.len() as u64).saturating_sub(1),
         2 => random.edge_number(),
-        3 => random.pick(&[(1 << 62) - 1, 4096, 4097, 1 << 32]),
+        3 => random.pick(&[(1 << 62) - 1, MAX_VALUE as u64, MAX_VALUE as u64 + 1, 1 << 32]),
         _ => value.len() as u64,
     };
     let mut bytes = wire_number(random, kind);

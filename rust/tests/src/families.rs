@@ -12,8 +12,9 @@ use crate::random::Random;
 use crate::words::{
     address_list, address_words, empty_state, mirrored, plan_of, plan_words, route_list, route_words, state_of,
 };
+use whapirohi_reference::capsule::MAX_VALUE;
 use whapirohi_reference::list::{MAX_ADDRESSES, MAX_RANGES};
-use whapirohi_reference::packet::{lower, word_at};
+use whapirohi_reference::packet::{lower, word_at, MAX_PACKET};
 use whapirohi_reference::{number, Plan};
 use whapirohi_tunnel::{AddressWords, State, ADDRESS_WORDS};
 use whapirohi_tunnel::{CAPSULE_ROOM, NUMBER_ROOM, PLAN_ROOM, RECEIVE_ROOM, SEND_ROOM};
@@ -174,7 +175,7 @@ fn capsules_written(run: &mut Run, random: &mut Random, cases: u64) {
         match random.below(10) {
             0 | 1 => {
                 let length = match random.below(4) {
-                    0 => random.pick(&[0, 63, 64, 4095, 4096, 4097, 5000, 65535]),
+                    0 => random.pick(&[0, 63, 64, MAX_VALUE - 1, MAX_VALUE, MAX_VALUE + 1, 5000, 65535]),
                     1 => random.below(4200),
                     _ => random.below(70),
                 };
@@ -409,7 +410,7 @@ fn occasions(run: &mut Run, plan: &Plan, packet: &[u8], sent: &Written) {
     if packet.len() % 2 == 1 {
         run.occasion("sent short, odd length");
     }
-    if packet.len() == 1500 {
+    if packet.len() == MAX_PACKET {
         run.occasion("sent short, 1,500 bytes");
     }
     if size == 8 {

@@ -4,8 +4,9 @@ use crate::capsules::{flip, number_form};
 use crate::lists::{address_in, address_of, open_grants, sound_grants, top, version};
 use crate::plans::{any_checksum, ids, segments};
 use crate::random::Random;
-use whapirohi_reference::packet::{complete, fold, is_udp, lower, put_word, seed, sum, word_at};
+use whapirohi_reference::packet::{complete, fold, is_udp, lower, put_word, seed, sum, word_at, MAX_PACKET};
 use whapirohi_reference::plan::{MAX_TEMPLATES, STATIC_LIMIT};
+use whapirohi_reference::tunnel::SEND_ROOM;
 use whapirohi_reference::{number, Checksum, ContextId, Grants, Plan, Template};
 
 /// Lists, a packet that they most times let pass, and a plan made for that packet.
@@ -85,8 +86,8 @@ fn flow(random: &mut Random, grants: &Grants) -> Flow {
 
 fn packet_length(random: &mut Random) -> usize {
     match random.below(16) {
-        0 => random.pick(&[1498, 1499, 1500]),
-        1 => random.below(1501),
+        0 => random.pick(&[MAX_PACKET - 2, MAX_PACKET - 1, MAX_PACKET]),
+        1 => random.below(MAX_PACKET + 1),
         2 => random.pick(&[20, 21, 28, 40, 41, 48, 127, 128, 129, 130]),
         3 => random.pick(&[575, 576, 1280, 1400]),
         _ => random.between(28, 200),
@@ -297,8 +298,9 @@ pub fn variation(random: &mut Random, scene: &Scene) -> Vec<u8> {
             settle(random, &mut packet, scene.checksum);
         }
         6 | 7 => {
-            let length = random.pick(&[packet.len() + 1, packet.len().saturating_sub(1), header, 1499, 1500]);
-            let length = if random.once_in(2) { random.between(header, 1500) } else { length.max(header) };
+            let length =
+                random.pick(&[packet.len() + 1, packet.len().saturating_sub(1), header, MAX_PACKET - 1, MAX_PACKET]);
+            let length = if random.once_in(2) { random.between(header, MAX_PACKET) } else { length.max(header) };
             let more = random.bytes(length);
             packet.truncate(length);
             let kept = packet.len();
@@ -344,7 +346,7 @@ pub fn variation(random: &mut Random, scene: &Scene) -> Vec<u8> {
             settle(random, &mut packet, scene.checksum);
         }
         18 if random.once_in(3) => {
-            let length = random.pick(&[1501, 1502, 1508, 1600, 65535]);
+            let length = random.pick(&[MAX_PACKET + 1, MAX_PACKET + 2, SEND_ROOM, 1600, 65535]);
             packet.resize(length, random.byte());
             seal_length(&mut packet);
         }
@@ -390,7 +392,7 @@ pub fn datagram(random: &mut Random, scene: &Scene, sent: Option<&[u8]>) -> Vec<
         9 => {
             // As many bytes as come to a packet about the limit.
             let rebuilt = templates.iter().find(|t| t.id.0 == id).map_or(0, Template::static_length);
-            let length = size + random.between(1499, 1502) - rebuilt;
+            let length = size + random.between(MAX_PACKET - 1, MAX_PACKET + 2) - rebuilt;
             datagram.resize(length.max(size), random.byte());
         }
         10 => datagram = random.bytes(sent.len().min(40)),
@@ -419,7 +421,7 @@ fn other_datagram(random: &mut Random, scene: &Scene) -> Vec<u8> {
             form[..cut].to_vec()
         }
         2 => {
-            let length = random.between(1499, 1503);
+            let length = random.between(MAX_PACKET - 1, MAX_PACKET + 3);
             [&number_form(0, random.below(4))[..], &random.bytes(length)].concat()
         }
         3 => {
@@ -432,7 +434,7 @@ fn other_datagram(random: &mut Random, scene: &Scene) -> Vec<u8> {
         }
         5 => {
             let id = random.edge_number();
-            let length = random.pick(&[0, 30, 1500, 1501, 65535]);
+            let length = random.pick(&[0, 30, MAX_PACKET, MAX_PACKET + 1, 65535]);
             [number_form(id, 0), random.bytes(length)].concat()
         }
         _ => [&number_form(0, random.below(2))[..], &variation(random, scene)].concat(),

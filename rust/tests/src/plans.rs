@@ -2,10 +2,10 @@
 
 use crate::capsules::number_form;
 use crate::random::Random;
-use crate::words::{BYTES, FIELD, FLAG, SEGMENTS, SEGMENT_COUNT, START, TEMPLATE_WORDS};
+use crate::words::{BYTES, FIELD, FLAG, SEGMENTS, SEGMENT_COUNT, START};
 use whapirohi_reference::plan::{MAX_SEGMENTS, MAX_TEMPLATES, STATIC_LIMIT};
 use whapirohi_reference::{Checksum, ContextId, Plan, Segment, Template};
-use whapirohi_tunnel::PlanWords;
+use whapirohi_tunnel::{PlanWords, TEMPLATE_WORDS};
 
 /// Context IDs in order: small ones most times.
 pub fn ids(random: &mut Random, count: usize) -> Vec<u64> {

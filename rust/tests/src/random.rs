@@ -1,5 +1,8 @@
 //! A small deterministic generator (splitmix64) and values that sit at limits.
 
+use whapirohi_reference::capsule::MAX_VALUE;
+use whapirohi_reference::plan::STATIC_LIMIT;
+
 pub struct Random(u64);
 
 impl Random {
@@ -52,8 +55,10 @@ impl Random {
 
     /// A word at or beside a limit of the wire, or of any size.
     pub fn edge(&mut self) -> u64 {
+        const VALUE: u64 = MAX_VALUE as u64;
+        const STATIC: u64 = STATIC_LIMIT as u64;
         const LIMITS: [u64; 12] =
-            [0, 1 << 6, 1 << 8, 1 << 14, 1 << 16, 1 << 30, 1 << 32, 1 << 62, 1 << 63, u64::MAX, 4096, 128];
+            [0, 1 << 6, 1 << 8, 1 << 14, 1 << 16, 1 << 30, 1 << 32, 1 << 62, 1 << 63, u64::MAX, VALUE, STATIC];
         match self.below(3) {
             0 => self.word() >> self.below(64),
             _ => self.pick(&LIMITS).wrapping_add(self.below(3) as u64).wrapping_sub(1),

@@ -7,11 +7,11 @@ use whapirohi_reference::{
     AddressEntry, AddressList, Checksum, ContextId, Grants, List, Plan, RequestId, RouteList, RouteRange, Segment,
     Template,
 };
-use whapirohi_tunnel::{AddressWords, PlanWords, RouteWords, State, ADDRESS_WORDS, PLAN_WORDS, ROUTE_WORDS};
+use whapirohi_tunnel::{AddressWords, PlanWords, RouteWords, State};
+use whapirohi_tunnel::{ADDRESS_WORDS, MAX_SEGMENTS, PLAN_WORDS, ROUTE_WORDS, TEMPLATE_WORDS};
 
 pub const ENTRY_WORDS: usize = 4;
 pub const RANGE_WORDS: usize = 5;
-pub const TEMPLATE_WORDS: usize = 149;
 
 /// Where the words of a template hold what.
 pub const SEGMENT_COUNT: usize = 1;
@@ -19,7 +19,7 @@ pub const FLAG: usize = 2;
 pub const FIELD: usize = 3;
 pub const START: usize = 4;
 pub const SEGMENTS: usize = 5;
-pub const BYTES: usize = 21;
+pub const BYTES: usize = SEGMENTS + 2 * MAX_SEGMENTS;
 
 pub fn empty_state() -> State {
     State {

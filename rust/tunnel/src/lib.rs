@@ -25,12 +25,19 @@ pub const TEMPLATE_WORDS: usize = 5 + 2 * MAX_SEGMENTS + STATIC_LIMIT;
 /// Words of a plan: the count, then those of each template.
 pub const PLAN_WORDS: usize = 1 + MAX_TEMPLATES * TEMPLATE_WORDS;
 
+/// The most bytes of a packet, and of a capsule's value.
+pub const MAX_PACKET: usize = 1500;
+pub const MAX_VALUE: usize = 4096;
+
+/// The room for a capsule's type and length.
+pub const HEADER_ROOM: usize = 8;
+
 /// The least lent outputs.
 pub const NUMBER_ROOM: usize = 8;
 pub const PLAN_ROOM: usize = 1400;
-pub const RECEIVE_ROOM: usize = 1500;
-pub const SEND_ROOM: usize = 1508;
-pub const CAPSULE_ROOM: usize = 4104;
+pub const RECEIVE_ROOM: usize = MAX_PACKET;
+pub const SEND_ROOM: usize = NUMBER_ROOM + MAX_PACKET;
+pub const CAPSULE_ROOM: usize = MAX_VALUE + HEADER_ROOM;
 
 pub type AddressWords = [u64; ADDRESS_WORDS];
 pub type RouteWords = [u64; ROUTE_WORDS];

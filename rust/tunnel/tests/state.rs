@@ -1,7 +1,7 @@
 //! The state that Rust lends is the state that the library expects, and the drivers' packet goes there and back.
 #![cfg(feature = "link")]
 
-use whapirohi_tunnel::{state_size, State, ADDRESS_WORDS};
+use whapirohi_tunnel::{state_size, State, ADDRESS_WORDS, CAPSULE_ROOM, RECEIVE_ROOM, ROUTE_WORDS, SEND_ROOM};
 
 #[test]
 fn size_of_the_state() {
@@ -19,9 +19,9 @@ fn drivers_packet_there_and_back() {
     // 192.0.2.3/32, and UDP to 198.51.100.2.
     let mut addresses = [0; ADDRESS_WORDS];
     addresses[..5].copy_from_slice(&[1, 0, 4 + 256 * 32, 0, 0xC000_0203]);
-    let mut routes = [0; 321];
+    let mut routes = [0; ROUTE_WORDS];
     routes[..6].copy_from_slice(&[1, 4 + 256 * 17, 0, 0xC633_6402, 0, 0xC633_6402]);
-    let mut capsules = [[0; 4104]; 2];
+    let mut capsules = [[0; CAPSULE_ROOM]; 2];
     let assigned = clinic.write_assign(&addresses, &mut capsules[0]).written().unwrap();
     let advertised = clinic.write_routes(&routes, &mut capsules[1]).written().unwrap();
     let stream = [&capsules[0][..assigned], &capsules[1][..advertised]].concat();
@@ -32,10 +32,10 @@ fn drivers_packet_there_and_back() {
     assert_eq!((second.number, second.kind, second.next), (0, 3, stream.len() as u64));
 
     let packet = b"\x45\x00\x00\x1C\x00\x00\x00\x00\x40\x11\x8E\x98\xC0\x00\x02\x03\xC6\x33\x64\x02\x03\xE8\x07\xD0\x00\x08\x07\xED";
-    let mut datagram = [0; 1508];
+    let mut datagram = [0; SEND_ROOM];
     let sent = van.send(packet, &mut datagram).written().unwrap();
     assert_eq!(datagram[..sent], *b"\x02\x45\x00\x00\x1C\x00\x00\x00\x00\x3F\x11\x8F\x98\x00\x08\xEC\x52");
-    let mut out = [0; 1500];
+    let mut out = [0; RECEIVE_ROOM];
     let received = clinic.receive(&datagram[..sent], &mut out).written().unwrap();
     let mut lowered = *packet;
     lowered[8..12].copy_from_slice(b"\x3F\x11\x8F\x98");
