@@ -57,9 +57,6 @@ module _ (e : AddressEntry) where
         short true h = omega arith
         short false h = h
 
-    pub prefix-small4 : e .version ≡ 4 → e .prefix ≤ 32
-    prefix-small4 q = rw (eq-eqb (e .version) 4 q) at (f .prefix)
-
   pub entry-fails : (EntryFacts e → ⊥) → soundEntry e ≡ false
   entry-fails n = only-false (soundEntry e) (λ h. n (entry-facts h))
 
@@ -70,28 +67,28 @@ module _ (e : AddressEntry) where
 
   module _ (i : idOf e < limit) where
     module _ (q : e .version ≡ 4) where
-      pub over4 : ltb (addressOf e) (2 ^ 32) ≡ false → false ≡ soundEntry e
+      pub ipv4-address-over : ltb (addressOf e) (2 ^ 32) ≡ false → false ≡ soundEntry e
       unfolding soundEntry
-      over4 h = simp (q, h, lt-ltb (idOf e) limit i)
+      ipv4-address-over h = simp (q, h, lt-ltb (idOf e) limit i)
 
       module _ (h : ltb (addressOf e) (2 ^ 32) ≡ true) where
-        pub long4 : 32 < e .prefix → false ≡ soundEntry e
+        pub ipv4-prefix-over : 32 < e .prefix → false ≡ soundEntry e
         unfolding soundEntry
-        long4 g = simp (q, h, lt-ltb (idOf e) limit i, lt-leb (e .prefix) 32 g)
+        ipv4-prefix-over g = simp (q, h, lt-ltb (idOf e) limit i, lt-leb (e .prefix) 32 g)
 
-        pub low4 : e .prefix ≤ 32 → lowZero (32 - e .prefix) (addressOf e) ≡ soundEntry e
+        pub ipv4-low-bits : e .prefix ≤ 32 → lowZero (32 - e .prefix) (addressOf e) ≡ soundEntry e
         unfolding soundEntry
-        low4 g = simp (q, h, lt-ltb (idOf e) limit i, le-leb (e .prefix) 32 g)
+        ipv4-low-bits g = simp (q, h, lt-ltb (idOf e) limit i, le-leb (e .prefix) 32 g)
 
     pub other-version : (e .version ≡ 4 → ⊥) → (e .version ≡ 6 → ⊥) → false ≡ soundEntry e
     unfolding soundEntry
     other-version f g = simp (ne-eqb (e .version) 4 f, ne-eqb (e .version) 6 g, lt-ltb (idOf e) limit i)
 
     module _ (q : e .version ≡ 6) where
-      pub long6 : 128 < e .prefix → false ≡ soundEntry e
+      pub ipv6-prefix-over : 128 < e .prefix → false ≡ soundEntry e
       unfolding soundEntry
-      long6 g = simp (q, lt-ltb (idOf e) limit i, lt-leb (e .prefix) 128 g)
+      ipv6-prefix-over g = simp (q, lt-ltb (idOf e) limit i, lt-leb (e .prefix) 128 g)
 
-      pub low6 : e .prefix ≤ 128 → lowZero (128 - e .prefix) (addressOf e) ≡ soundEntry e
+      pub ipv6-low-bits : e .prefix ≤ 128 → lowZero (128 - e .prefix) (addressOf e) ≡ soundEntry e
       unfolding soundEntry
-      low6 g = simp (q, lt-ltb (idOf e) limit i, le-leb (e .prefix) 128 g)
+      ipv6-low-bits g = simp (q, lt-ltb (idOf e) limit i, le-leb (e .prefix) 128 g)

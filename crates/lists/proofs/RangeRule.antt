@@ -53,17 +53,17 @@ module _ (r : RouteRange) where
   reversed h = simp h
 
   module _ (h : leb (startOf r) (endOf r) ≡ true) where
-    pub version6 : r .version ≡ 6 → r .protocol < 256 → true ≡ soundRange r
+    pub ipv6-in-order : r .version ≡ 6 → r .protocol < 256 → true ≡ soundRange r
     unfolding soundRange
-    version6 q p = simp (h, q, lt-ltb (r .protocol) 256 p)
+    ipv6-in-order q p = simp (h, q, lt-ltb (r .protocol) 256 p)
 
     pub other-version : (r .version ≡ 4 → ⊥) → (r .version ≡ 6 → ⊥) → false ≡ soundRange r
     unfolding soundRange
     other-version f g = simp (h, ne-eqb (r .version) 4 f, ne-eqb (r .version) 6 g)
 
-    pub version4 : r .version ≡ 4 → r .protocol < 256 → ltb (endOf r) (2 ^ 32) ≡ soundRange r
+    pub ipv4-end-below : r .version ≡ 4 → r .protocol < 256 → ltb (endOf r) (2 ^ 32) ≡ soundRange r
     unfolding soundRange
-    version4 q p = simp (h, q, lt-ltb (r .protocol) 256 p, and-true)
+    ipv4-end-below q p = simp (h, q, lt-ltb (r .protocol) 256 p, and-true)
 
 -- ---- neighbours
 

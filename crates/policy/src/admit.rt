@@ -9,7 +9,7 @@ use inet::Address;
 use lists::RouteRange;
 
 // Whether some range holds an address and allows a protocol.
-pub fn any_admits(w: &[u64], a: Address, protocol: u8, icmp: bool) -> bool
+pub(crate) fn any_admits(w: &[u64], a: Address, protocol: u8, icmp: bool) -> bool
     requires { ⌜ routeWords ≤ length (now w) ⌝ }
     requires { ⌜ countOf (now w) ≤ maxRanges ⌝ }
     ensures { λ r. ⌜ r ≡ anyOf (admits a protocol icmp) (rangesOf (now (w .entry))) ⌝ }

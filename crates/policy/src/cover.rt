@@ -12,7 +12,7 @@ use inet::Address;
 use lists::AddressEntry;
 
 // Whether some entry covers an address.
-pub fn any_covers(w: &[u64], a: Address) -> bool
+pub(crate) fn any_covers(w: &[u64], a: Address) -> bool
     requires { ⌜ addressWords ≤ length (now w) ⌝ }
     requires { ⌜ countOf (now w) ≤ maxAddresses ⌝ }
     ensures { λ r. ⌜ r ≡ anyOf (covers a) (entriesOf (now (w .entry))) ⌝ }

@@ -15,7 +15,7 @@ returns c = Range.reversed _ (called-false (c .before .at-most .ensures) (c .if1
 
 returns-2 : tie.Need-returns-2
 returns-2 c =
-    Range.version6 _ (called-true (c .before .before .before .at-most .ensures) (c .before .before .if1 .left)) (c .if2 .taken) (omega arith)
+    Range.ipv6-in-order _ (called-true (c .before .before .before .at-most .ensures) (c .before .before .if1 .left)) (c .if2 .taken) (omega arith)
 
 returns-3 : tie.Need-returns-3
 returns-3 c =
@@ -28,7 +28,7 @@ below-requires c κs = search needs
 returns-4 : tie.Need-returns-4
 returns-4 c =
     c .below .ensures
-    ∙ Range.version4 _ (called-true (c .before .before .before .before .before .before .at-most .ensures)
+    ∙ Range.ipv4-end-below _ (called-true (c .before .before .before .before .before .before .at-most .ensures)
     (c .before .before .before .before .before .if1 .left))
     (c .before .if3 .left) (omega arith)
 
