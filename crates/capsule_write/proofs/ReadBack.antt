@@ -1,5 +1,5 @@
 -- A capsule that is written keeps the rules of reading, so it is read back as it was, whatever follows it. Assumes nothing.
-use Prim.Native.Nat.{ℕ, zero, suc, _+_, _*_, _<_, _^_, min}
+use Prim.Native.Nat.{ℕ, zero, suc, _+_, _*_, _^_, min}
 use mathlib.Core.Bool.{Bool, true, false}
 use mathlib.Core.Path.{_≡_, refl, ap, _∙_}
 use mathlib.Core.List.{List, _++_}
@@ -17,7 +17,7 @@ use Rattle.capsule.specs.Entries.{entryFormat, rangeFormat}
 use Rattle.capsule.specs.Sound.{Ruled, valueStart, Sound, sound-datagram, sound-assign, sound-request, sound-advertise, entryInWords, rangeInWords}
 use Rattle.capsule.proofs.ReadLaws.{entries-sound, ranges-sound, entries-packed, ranges-packed}
 use Rattle.capsule.proofs.RoundTrip.{read-written}
-use Rattle.capsule_write.specs.Verdicts.{valueLimit, storedEntries, storedRanges, entriesVerdict, rangesVerdict}
+use Rattle.capsule_write.specs.Verdicts.{Words, valueLimit, storedEntries, storedRanges, entriesVerdict, rangesVerdict}
 use Rattle.capsule_write.proofs.Accepted.{entries-go, ranges-go, limit-go}
 
 -- ---- a `Go` says that the capsule keeps the rules
@@ -36,10 +36,6 @@ module _ (w : List ℕ) where
   advertise-sound e = let g = ranges-go w e in sound-advertise (record { elements = g .faultless; number = g .counted })
 
 -- ---- what words hold
-
--- every element is a word of 64 bits
-abbrev pub Words : List ℕ → Type 0
-Words w = (i : ℕ) → getD w i 0 < 2 ^ 64
 
 all-from : {A : Type 0} (p : A → Bool) (f : ℕ → A) → ((i : ℕ) → p (f i) ≡ true) → (i n : ℕ) → allOf p (from f i n) ≡ true
 all-from p f h i zero = refl

@@ -1,9 +1,9 @@
 -- Why a capsule is not written: the first fault, in the order of reading.
-use Prim.Native.Nat.{ℕ, _+_, min}
+use Prim.Native.Nat.{ℕ, _+_, _<_, _^_, min}
 use mathlib.Core.Bool.{Bool, true, false}
 use mathlib.Core.List.{List, []}
 use lib.Dec.{ltb}
-use lib.ListN.{length}
+use lib.ListN.{length, getD}
 use Rattle.answer.specs.declared.Refusal.the-variants.{NoRoom, TooLong}
 use Rattle.answer.specs.declared.Verdict.{Verdict}
 use Rattle.answer.specs.declared.Verdict.the-variants.{Go}
@@ -31,6 +31,10 @@ withRoom n v = stopIf (ltb n capsuleRoom) NoRoom v
 -- a value over the limit
 unfoldable pub valueLimit : List ℕ → Verdict
 valueLimit v = stopIf (ltb maxValue (length v)) TooLong Go
+
+-- every element is a word of 64 bits, as in each list that is lent
+abbrev pub Words : List ℕ → Type 0
+Words w = (i : ℕ) → getD w i 0 < 2 ^ 64
 
 -- the elements that the words hold, whatever the count says
 abbrev pub storedEntries : List ℕ → List AddressEntry

@@ -27,8 +27,7 @@ use Rattle.capsule.specs.Capsules.{Capsule, datagram, assign, request, advertis
 use Rattle.capsule.specs.Sound.{Sound, inWords, valueStart}
 use Rattle.capsule.specs.Shortest.{shortestCapsule}
 use Rattle.capsule.proofs.RoundTrip.{read-written, shortest-written}
-use Rattle.capsule_write.specs.Verdicts.{DatagramWritten, AssignWritten, RequestWritten, RoutesWritten}
-use Rattle.capsule_write.proofs.ReadBack.{Words}
+use Rattle.capsule_write.specs.Verdicts.{Words, DatagramWritten, AssignWritten, RequestWritten, RoutesWritten}
 use Rattle.policy.specs.Granted.{covers, holds}
 use Rattle.policy.proofs.PassLaws.{icmp-6-not-1}
 use Rattle.table.specs.Templates.{Template}

@@ -13,9 +13,9 @@ use Rattle.answer.proofs.Tables.{done-go, done-count}
 use Rattle.lists.specs.Words.{entriesOf, rangesOf}
 use Rattle.capsule.specs.Capsules.{Capsule, datagram, assign, request, advertise, capsule, readCapsule, capsuleBytes}
 use Rattle.capsule.specs.Sound.{valueStart}
-use Rattle.capsule_write.specs.Verdicts.{withRoom, valueLimit, entriesVerdict, rangesVerdict, DatagramWritten, AssignWritten, RequestWritten, RoutesWritten}
+use Rattle.capsule_write.specs.Verdicts.{Words, withRoom, valueLimit, entriesVerdict, rangesVerdict, DatagramWritten, AssignWritten, RequestWritten, RoutesWritten}
 use Rattle.capsule_write.proofs.Accepted.{room-go}
-use Rattle.capsule_write.proofs.ReadBack.{Words, read-datagram, read-assign, read-request, read-advertise}
+use Rattle.capsule_write.proofs.ReadBack.{read-datagram, read-assign, read-request, read-advertise}
 use Rattle.ends.specs.Outcomes.{ReadBack}
 
 -- a message that is read back, where its verdict is `Go`

@@ -7,7 +7,7 @@ use Rattle.answer.specs.declared.Answer.{Answer}
 use Rattle.answer.specs.declared.Answer.the-variants.{Done}
 use Rattle.lists.specs.Words.{addressWords, routeWords}
 use Rattle.capsule.specs.declared.CapsuleRead.{CapsuleRead}
-use Rattle.capsule_write.proofs.ReadBack.{Words}
+use Rattle.capsule_write.specs.Verdicts.{Words}
 use Rattle.state.specs.State.{stateWords}
 use Rattle.exchange.specs.Reading.{ReadsCapsule}
 use Rattle.exchange.specs.Writing.{Assigns, Advertises}

@@ -24,9 +24,9 @@ use Rattle.capsule.specs.Capsules.{Capsule, kindOf, assign, advertise, unknown,
 use Rattle.capsule.specs.Sound.{valueStart, Sound, sound-assign, sound-advertise, inWords}
 use Rattle.capsule.proofs.ReadLaws.{entries-ruled, ranges-ruled, entries-in-words, ranges-in-words, addresses-sound, routes-sound}
 use Rattle.capsule.proofs.RoundTrip.{read-written}
-use Rattle.capsule_write.specs.Verdicts.{entriesVerdict, rangesVerdict}
+use Rattle.capsule_write.specs.Verdicts.{Words, entriesVerdict, rangesVerdict}
 use Rattle.capsule_write.proofs.Accepted.{room-go, entries-go, ranges-go}
-use Rattle.capsule_write.proofs.ReadBack.{Words, assign-sound, advertise-sound, entries-words, ranges-words}
+use Rattle.capsule_write.proofs.ReadBack.{assign-sound, advertise-sound, entries-words, ranges-words}
 use Rattle.state.specs.State.{stateWords, stateIn, soundState, addressesReceived, routesReceived, addressesGiven, routesGiven}
 use Rattle.state.proofs.StateLaws.{sound-addresses-given, sound-routes-given}
 use Rattle.state.proofs.StoreLaws.{given-addresses-put, given-routes-put}
