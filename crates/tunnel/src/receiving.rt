@@ -1,10 +1,9 @@
 // From a datagram to a packet.
 use super::RECEIVE_ROOM;
+use super::granted::granted;
 use answer::Answer;
 use answer::Refusal;
 use answer::Verdict;
-use state::GIVEN_AT;
-use state::RECEIVED_AT;
 use state::STATE_WORDS;
 use state::TABLE_AT;
 use state::state_sound;
@@ -136,7 +135,7 @@ fn open_by(t: &[u64], body: &[u8], image: &mut [u8; MAX_PACKET]) -> OpenRead
     OpenRead::Packet(n)
 }
 
-// Judges a packet, and copies it to the front of out. Receiving is granted by the given side, or as a reply by the received one.
+// Judges a packet, and copies it to the front of out.
 fn take_in(state: &[u64], inner: &[u8], out: &mut [u8]) -> Answer
     requires { ⌜ stateWords ≤ length (now state) ⌝ }
     requires { ⌜ Takable (now state) (now inner) (now out) ⌝ }
@@ -145,10 +144,7 @@ fn take_in(state: &[u64], inner: &[u8], out: &mut [u8]) -> Answer
     if !inet::packet::form(inner) {
         return Answer::Refused(Refusal::BadForm);
     }
-    let flow = policy::flow_of(inner);
-    let received = &state[RECEIVED_AT..GIVEN_AT];
-    let given = &state[GIVEN_AT..TABLE_AT];
-    if !policy::passes(given, received, flow) {
+    if !granted(state, inner, false) {
         return Answer::Refused(Refusal::NotGranted);
     }
     let n = bytes::copy(inner, out);

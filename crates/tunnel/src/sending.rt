@@ -1,5 +1,6 @@
 // From a packet to a datagram.
 use super::SEND_ROOM;
+use super::granted::granted;
 use answer::Answer;
 use answer::Refusal;
 use answer::Verdict;
@@ -8,8 +9,6 @@ use inet::packet::form;
 use inet::packet::hops;
 use output::put_byte;
 use output::put_bytes;
-use state::GIVEN_AT;
-use state::RECEIVED_AT;
 use state::STATE_WORDS;
 use state::TABLE_AT;
 use state::state_sound;
@@ -69,10 +68,7 @@ fn send_verdict(state: &[u64], packet: &[u8], room: usize) -> Verdict
     if hops(packet) < 2 {
         return Verdict::Stop(Refusal::HopLimit);
     }
-    let flow = policy::flow_of(packet);
-    let received = &state[RECEIVED_AT..GIVEN_AT];
-    let given = &state[GIVEN_AT..TABLE_AT];
-    if !policy::passes(received, given, flow) {
+    if !granted(state, packet, true) {
         return Verdict::Stop(Refusal::NotGranted);
     }
     Verdict::Go

@@ -12,11 +12,9 @@ use Rattle.answer.proofs.Tables.{stops, passes}
 use Rattle.lists.proofs.Calls.{called-true, called-false}
 use Rattle.inet.specs.Packet.{form, hopsOf}
 use Rattle.inet.proofs.FormFacts.{form-facts}
-use Rattle.state.specs.State.{State, soundState, sendingGranted, stateIn}
-use Rattle.state.proofs.StateLaws.{state-facts}
+use Rattle.state.specs.State.{State, soundState, stateIn}
 use Rattle.template.specs.Datagrams.{maxPacket}
 use Rattle.tunnel.specs.Tunnel.{sendRoom, sendTests, sendVerdict}
-use Rattle.tunnel.proofs.SendingLaws.{sending-by}
 use borrow.Author.Needs.{needs}
 use Rattle.tunnel.proofs.sending.send_verdict.Statement.{statement}
 use Rattle.tunnel.proofs.sending.send_verdict.Tie as tie
@@ -76,9 +74,6 @@ past5 : (c : tie.Else5) → Past 5 (S5 c)
 unfolding sendTests
 past5 c = past4 (c .before .before) ∙ passes _ _ _ (le-ltb (hopsOf (P (S5 c))) 2 (omega (arith, c .before .hops .ensures)))
 
-granted : (c : tie.After-passes) → c .passes .result ≡ sendingGranted (S (S5 (c .before .before .before .before))) (P (S5 (c .before .before .before .before)))
-granted c = sending-by (S (S5 (c .before .before .before .before))) (P (S5 (c .before .before .before .before))) (c .before .before .before .flow-of .ensures) (c .passes .ensures)
-
 returns : tie.Need-returns
 unfolding sendVerdict sendTests
 returns c = sym (stops _ _ _ (lt-ltb (c .before .before .before .args .room) sendRoom (omega arith)))
@@ -110,39 +105,16 @@ returns-5 c =
     let e = c .before .before in
     sym (past4 e ∙ stops _ _ _ (lt-ltb (hopsOf (P (S4 e))) 2 (omega (arith, c .before .hops .ensures))))
 
-flow-of-requires : tie.Need-flow-of-requires
-flow-of-requires c κs = form-facts _ (formed (c .before .before))
-
-sub-received : tie.Need-sub-received
-sub-received c = search needs
-
-part-received-start : tie.Need-part-received-start
-part-received-start c = search needs
-
-part-received-end : tie.Need-part-received-end
-part-received-end c = search needs
-
-sub-given : tie.Need-sub-given
-sub-given c = search needs
-
-part-given-start : tie.Need-part-given-start
-part-given-start c = search needs
-
-part-given-end : tie.Need-part-given-end
-part-given-end c = search needs
-
-passes-requires : tie.Need-passes-requires
-passes-requires c κs =
-    let e = c .before .before .before .before .before .before .before .before in
-    let f = state-facts (S (S2 e)) (sound e) in (search needs, (f .received, f .given))
+granted-requires : tie.Need-granted-requires
+granted-requires c κs = (search needs, (sound (c .before .before .before .before .before), form-facts _ (formed (c .before .before))))
 
 returns-6 : tie.Need-returns-6
 unfolding sendVerdict sendTests
-returns-6 c = sym (past5 (c .before .before .before .before .before) ∙ stops _ _ _ (ap not (called-false (granted (c .before)) (c .if6 .taken))))
+returns-6 c = sym (past5 (c .before .before) ∙ stops _ _ _ (ap not (called-false (c .before .granted .ensures) (c .if6 .taken))))
 
 returns-7 : tie.Need-returns-7
 unfolding sendVerdict sendTests
-returns-7 c = sym (past5 (c .before .before .before .before .before) ∙ passes _ _ _ (ap not (called-true (granted (c .before)) (c .if6 .left))))
+returns-7 c = sym (past5 (c .before .before) ∙ passes _ _ _ (ap not (called-true (c .before .granted .ensures) (c .if6 .left))))
 
 pub send-verdict-spec : {M : Type 1} → statement M
 send-verdict-spec =
@@ -156,13 +128,6 @@ send-verdict-spec =
     returns-4
     hops-requires
     returns-5
-    flow-of-requires
-    sub-received
-    part-received-start
-    part-received-end
-    sub-given
-    part-given-start
-    part-given-end
-    passes-requires
+    granted-requires
     returns-6
     returns-7)
