@@ -1,17 +1,16 @@
--- What writing a number answers and leaves, by its cases; and what a caller that has tested both refusals learns. Assumes nothing.
-use Prim.Native.Nat.{ℕ, _+_, _*_, _^_, _<_, _≤_}
-use mathlib.Core.Path.{_≡_, refl, sym, ap, _∙_}
-use mathlib.Core.List.{List, _++_}
+-- What writing a number answers and leaves, by its cases. Assumes nothing.
+use Prim.Native.Nat.{ℕ, _<_, _≤_}
+use mathlib.Core.Path.{_≡_, ap}
+use mathlib.Core.List.{List}
 use borrow.Author.Tests.{lt-ltb, le-ltb, le-leb, lt-leb}
-use lib.ListN.{length, drop}
-use Rattle.answer.specs.declared.Answer.{Answer}
+use lib.ListN.{length}
 use Rattle.answer.specs.declared.Answer.the-variants.{Done, Refused}
 use Rattle.answer.specs.declared.Refusal.the-variants.{BadAddress, NoRoom}
 use Rattle.answer.specs.declared.Verdict.the-variants.{Go, Stop}
 use Rattle.answer.specs.Verdict.{Writes}
 use Rattle.output.specs.Places.{Put}
 use Rattle.output.proofs.Placing.{put-front}
-use Rattle.varint.specs.Numbers.{limit, room, encode, encodedSize, writeTests, writeVerdict}
+use Rattle.varint.specs.Numbers.{limit, room, encode, writeTests, writeVerdict}
 
 module _ (v : ℕ) (out : List ℕ) where
   pub no-room : length out < room → Writes (writeVerdict v (length out)) (encode v) out (Refused NoRoom) out
@@ -31,9 +30,3 @@ module _ (v : ℕ) (out : List ℕ) where
       -- the number put at the front
       pub put : {after : List ℕ} {r : ℕ} → Put (encode v) 0 out r after → Writes (writeVerdict v (length out)) (encode v) out (Done r) after
       put p = let f = put-front p in record { answer = rw goes (ap Done (f .0)); output = rw goes (f .1) }
-
-      -- what a caller learns that has room and a value below the limit
-      pub wrote : {after : List ℕ} {r : Answer} → Writes (writeVerdict v (length out)) (encode v) out r after
-          → (r ≡ Done (encodedSize v)) × (after ≡ encode v ++ drop (length (encode v)) out)
-      unfolding encodedSize
-      wrote w = (rw goes at (w .answer), rw goes at (w .output))
