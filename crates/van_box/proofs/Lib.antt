@@ -1,1 +1,7 @@
 pub mod Rooms
+pub mod Heads
+pub mod Held
+pub mod Outcomes
+pub mod Shares
+pub mod Streaming
+pub mod Passing

@@ -1,15 +1,18 @@
 // What each kind of record answers: one library function each, which writes the answer's bytes behind the place of its head.
+// All answers of a record go to the output that is lent, and nothing is read or written here.
 use crate::outgoing::ANSWER_HEAD;
 use crate::outgoing::Output;
 use crate::outgoing::put_answer;
 use crate::outgoing::put_unknown;
-use crate::outgoing::with_room;
 use answer::Answer;
 use answer::Verdict;
 use state::STATE_WORDS;
 ghost use Prim.Native.Nat.{_+_, _≤_};
 ghost use lib.ListN.{length};
-ghost use Rattle.van_box.specs.Sizes.{answerRoom};
+ghost use Rattle.van_box.specs.Sizes.{maxRecord, answerRoom, recordRoom};
+ghost use Rattle.van_box.specs.Outgoing.{Appends};
+ghost use Rattle.van_box.specs.Records.{sentAnswer, receivedAnswer, requestAnswer, planOutcome, assignOutcome, advertiseOutcome};
+ghost use Rattle.van_box.specs.Records.{streamOutcome, outcome, Answers, AnswersCapsule};
 
 // The output after a capsule, behind which the next one stands.
 pub struct Stepped {
@@ -25,8 +28,9 @@ pub(crate) fn answer_record(
     out: &mut [u8],
     output: Output,
 ) -> Output
-    requires { ⌜ output .used + answerRoom ≤ length (now out) ⌝ }
-    ensures { λ r. ⌜ r .used ≤ length (now (out .exit)) ⌝ }
+    requires { ⌜ output .used + recordRoom ≤ length (now out) ⌝ }
+    requires { ⌜ length (now body) ≤ maxRecord ⌝ }
+    ensures { λ r. ⌜ Answers (outcome kind (now (state .entry)) (now (body .entry))) output (now (out .entry)) r (now (state .exit)) (now (out .exit)) ⌝ }
 {
     if kind == b'C' {
         return stream_record(state, body, out, output);
@@ -34,100 +38,136 @@ pub(crate) fn answer_record(
     if kind == b'P' {
         return plan_record(state, body, out, output);
     }
-    if kind == b'T' || kind == b'D' {
-        return packet_record(state, kind, body, out, output);
+    if kind == b'A' {
+        return assign_record(state, body, out, output);
     }
-    if kind == b'A' || kind == b'R' || kind == b'Q' {
-        return list_record(state, kind, body, out, output);
+    if kind == b'R' {
+        return advertise_record(state, body, out, output);
+    }
+    if kind == b'Q' {
+        return request_record(body, out, output);
+    }
+    if kind == b'T' {
+        return packet_record(state, body, out, output);
+    }
+    if kind == b'D' {
+        return datagram_record(state, body, out, output);
     }
     put_unknown(output, out)
 }
 
-// A packet from a tablet, or a datagram from the link.
+// A packet from a tablet.
 fn packet_record<'a>(
     state: &'a [u64; STATE_WORDS],
-    kind: u8,
-    body: &'a [u8],
+    packet: &'a [u8],
     out: &mut [u8],
     output: Output,
 ) -> Output
     requires { ⌜ output .used + answerRoom ≤ length (now out) ⌝ }
-    ensures { λ r. ⌜ r .used ≤ length (now (out .exit)) ⌝ }
+    ensures { λ r. ⌜ Appends (sentAnswer (now (state .entry)) (now (packet .entry))) output (now (out .entry)) r (now (out .exit)) ⌝ }
 {
     let start = output.used + ANSWER_HEAD;
-    if kind == b'T' {
-        let sent = tunnel::send(state, body, &mut out[start..]);
-        return put_answer(output, out, kind, sent);
-    }
-    let received = tunnel::receive(state, body, &mut out[start..]);
-    put_answer(output, out, kind, received)
+    let sent = tunnel::send(state, packet, &mut out[start..]);
+    put_answer(output, out, b'T', sent)
+}
+
+// A datagram from the link.
+fn datagram_record<'a>(
+    state: &'a [u64; STATE_WORDS],
+    datagram: &'a [u8],
+    out: &mut [u8],
+    output: Output,
+) -> Output
+    requires { ⌜ output .used + answerRoom ≤ length (now out) ⌝ }
+    ensures { λ r. ⌜ Appends (receivedAnswer (now (state .entry)) (now (datagram .entry))) output (now (out .entry)) r (now (out .exit)) ⌝ }
+{
+    let start = output.used + ANSWER_HEAD;
+    let received = tunnel::receive(state, datagram, &mut out[start..]);
+    put_answer(output, out, b'D', received)
 }
 
 // A plan file: a good one replaces the templates.
 fn plan_record(
     state: &mut [u64; STATE_WORDS],
-    body: &[u8],
+    file: &[u8],
     out: &mut [u8],
     output: Output,
 ) -> Output
     requires { ⌜ output .used + answerRoom ≤ length (now out) ⌝ }
-    ensures { λ r. ⌜ r .used ≤ length (now (out .exit)) ⌝ }
+    ensures { λ r. ⌜ Answers (planOutcome (now (state .entry)) (now (file .entry))) output (now (out .entry)) r (now (state .exit)) (now (out .exit)) ⌝ }
 {
-    let verdict = state::load_plan(state, body);
+    let verdict = state::load_plan(state, file);
     match verdict {
         Verdict::Go => put_answer(output, out, b'P', Answer::Done(0)),
         Verdict::Stop(why) => put_answer(output, out, b'P', Answer::Refused(why)),
     }
 }
 
-// A list to assign, to advertise or to request.
-fn list_record(
+// Entries to assign.
+fn assign_record(
     state: &mut [u64; STATE_WORDS],
-    kind: u8,
-    body: &[u8],
+    value: &[u8],
     out: &mut [u8],
     output: Output,
 ) -> Output
     requires { ⌜ output .used + answerRoom ≤ length (now out) ⌝ }
-    ensures { λ r. ⌜ r .used ≤ length (now (out .exit)) ⌝ }
+    ensures { λ r. ⌜ Answers (assignOutcome (now (state .entry)) (now (value .entry))) output (now (out .entry)) r (now (state .exit)) (now (out .exit)) ⌝ }
 {
     let start = output.used + ANSWER_HEAD;
-    if kind == b'A' {
-        let assigned = exchange::assign(state, body, &mut out[start..]);
-        return put_answer(output, out, kind, assigned);
-    }
-    if kind == b'R' {
-        let advertised = exchange::advertise(state, body, &mut out[start..]);
-        return put_answer(output, out, kind, advertised);
-    }
-    let requested = exchange::request(body, &mut out[start..]);
-    put_answer(output, out, kind, requested)
+    let assigned = exchange::assign(state, value, &mut out[start..]);
+    put_answer(output, out, b'A', assigned)
 }
 
-// Every capsule gets an answer, and a refusal is the last one: it consumes nothing.
+// Ranges to advertise.
+fn advertise_record(
+    state: &mut [u64; STATE_WORDS],
+    value: &[u8],
+    out: &mut [u8],
+    output: Output,
+) -> Output
+    requires { ⌜ output .used + answerRoom ≤ length (now out) ⌝ }
+    ensures { λ r. ⌜ Answers (advertiseOutcome (now (state .entry)) (now (value .entry))) output (now (out .entry)) r (now (state .exit)) (now (out .exit)) ⌝ }
+{
+    let start = output.used + ANSWER_HEAD;
+    let advertised = exchange::advertise(state, value, &mut out[start..]);
+    put_answer(output, out, b'R', advertised)
+}
+
+// Entries to request.
+fn request_record(value: &[u8], out: &mut [u8], output: Output) -> Output
+    requires { ⌜ output .used + answerRoom ≤ length (now out) ⌝ }
+    ensures { λ r. ⌜ Appends (requestAnswer (now (value .entry))) output (now (out .entry)) r (now (out .exit)) ⌝ }
+{
+    let start = output.used + ANSWER_HEAD;
+    let requested = exchange::request(value, &mut out[start..]);
+    put_answer(output, out, b'Q', requested)
+}
+
+// Bytes of the stream: every capsule gets an answer, and a refusal is the last one. It leaves its place, so that no bytes are passed.
 fn stream_record(
     state: &mut [u64; STATE_WORDS],
     bytes: &[u8],
     out: &mut [u8],
     output: Output,
 ) -> Output
-    requires { ⌜ output .used + answerRoom ≤ length (now out) ⌝ }
-    ensures { λ r. ⌜ r .used ≤ length (now (out .exit)) ⌝ }
+    requires { ⌜ output .used + recordRoom ≤ length (now out) ⌝ }
+    requires { ⌜ length (now bytes) ≤ maxRecord ⌝ }
+    ensures { λ r. ⌜ Answers (streamOutcome (now (state .entry)) (now (bytes .entry))) output (now (out .entry)) r (now (state .exit)) (now (out .exit)) ⌝ }
 {
-    let mut step = capsule_record(state, bytes, 0, out, output);
+    let mut waiting = output;
     let mut at: usize = 0;
-    let mut next = step.next;
-    while at < next {
+    loop {
+        let step = capsule_record(state, bytes, at, out, waiting);
+        let next = step.next;
+        waiting = step.output;
+        if next <= at {
+            return waiting;
+        }
         if bytes.len() <= next {
-            break;
+            return waiting;
         }
         at = next;
-        let waiting = step.output;
-        let room = with_room(waiting, out);
-        step = capsule_record(state, bytes, at, out, room);
-        next = step.next;
     }
-    step.output
 }
 
 // The capsule at a place of the stream's bytes.
@@ -139,7 +179,7 @@ fn capsule_record(
     output: Output,
 ) -> Stepped
     requires { ⌜ output .used + answerRoom ≤ length (now out) ⌝ }
-    ensures { λ r. ⌜ r .output .used ≤ length (now (out .exit)) ⌝ }
+    ensures { λ r. ⌜ AnswersCapsule (now (state .entry)) (now (bytes .entry)) at output (now (out .entry)) r (now (state .exit)) (now (out .exit)) ⌝ }
 {
     let start = output.used + ANSWER_HEAD;
     let read = exchange::next_capsule(state, bytes, at, &mut out[start..]);

@@ -13,18 +13,23 @@ use incoming::fill;
 use incoming::keep;
 use incoming::record_size;
 use outgoing::Output;
+use outgoing::RECORD_ROOM;
 use outgoing::flush;
 use outgoing::put_unknown;
 use outgoing::with_room;
 use state::STATE_WORDS;
 ghost use Prim.Native.Nat.{_≤_};
 ghost use lib.ListN.{length};
-ghost use Rattle.van_box.specs.Sizes.{inputRoom, answerRoom};
+ghost use Rattle.van_box.specs.Sizes.{inputRoom, answerHead, recordRoom};
+ghost use Rattle.van_box.specs.Passing.{AnswersAll, Turns};
 
 // Two records of the most bytes fit, so that what is held of one never fills the input.
 const INPUT: usize = 131072;
 
-const OUTPUT: usize = 65536;
+// The answers that are gathered before they are written.
+const GATHERED: usize = 65536;
+
+const OUTPUT: usize = GATHERED + RECORD_ROOM;
 
 // The box between two reads: how many bytes of an unfinished record the input holds, and whether there is more to do.
 pub struct Between {
@@ -78,8 +83,8 @@ fn answer_read(
     out: &mut [u8],
 ) -> Between
     requires { ⌜ before .held ≤ length (now input) ⌝ }
-    requires { ⌜ answerRoom ≤ length (now out) ⌝ }
-    ensures { λ r. ⌜ r .held ≤ length (now (input .exit)) ⌝ }
+    requires { ⌜ recordRoom ≤ length (now out) ⌝ }
+    ensures { λ r. ⌜ Turns (now (state .entry)) before (now (input .entry)) r (now (state .exit)) (now (input .exit)) ⌝ }
 {
     let held = before.held;
     let end = fill(input, held);
@@ -102,7 +107,7 @@ fn answer_read(
 
 // A record that is cut by the end of the input gets an answer too.
 fn end_of_input(held: usize, out: &mut [u8])
-    requires { ⌜ answerRoom ≤ length (now out) ⌝ }
+    requires { ⌜ answerHead ≤ length (now out) ⌝ }
 {
     if 0 < held {
         let none = Output {
@@ -116,9 +121,8 @@ fn end_of_input(held: usize, out: &mut [u8])
 
 // Answers every whole record of some bytes.
 fn answer_records(state: &mut [u64; STATE_WORDS], bytes: &[u8], out: &mut [u8]) -> Answered
-    requires { ⌜ answerRoom ≤ length (now out) ⌝ }
-    ensures { λ r. ⌜ r .at ≤ length (now (bytes .entry)) ⌝ }
-    ensures { λ r. ⌜ r .output .used ≤ length (now (out .exit)) ⌝ }
+    requires { ⌜ recordRoom ≤ length (now out) ⌝ }
+    ensures { λ r. ⌜ AnswersAll (now (state .entry)) (now (bytes .entry)) r (now (state .exit)) (now (out .exit)) ⌝ }
 {
     let mut output = Output {
         used: 0,

@@ -1,4 +1,5 @@
 // Answers on standard output: the kind, one byte number, two bytes big-endian length, and that many bytes.
+use crate::incoming::MAX_RECORD;
 use answer::Answer;
 use answer::Refusal;
 use capsule_write::CAPSULE_ROOM;
@@ -6,13 +7,21 @@ use libc::STDOUT_FILENO;
 ghost use Prim.Native.Nat.{_+_, _≤_};
 ghost use lib.ListN.{length};
 ghost use Rattle.answer.specs.Number.{answerLength};
-ghost use Rattle.van_box.specs.Sizes.{answerHead, answerRoom};
+ghost use Rattle.van_box.specs.Sizes.{answerHead, recordRoom};
+ghost use Rattle.van_box.specs.Outgoing.{unknownAnswer, Appends, PutsHead, Flushes, MakesRoom};
 
 // The bytes of an answer in front of its body.
 pub(crate) const ANSWER_HEAD: usize = 4;
 
 // The most that an answer takes: no function writes more than a capsule.
-pub(crate) const ANSWER_ROOM: usize = ANSWER_HEAD + CAPSULE_ROOM;
+const ANSWER_ROOM: usize = ANSWER_HEAD + CAPSULE_ROOM;
+
+// The most that the answers of a record take for each of its bytes: an entry of at most 26 bytes is read from at least 7, and a byte of a capsule's
+// head makes up for the head of its answer.
+const ANSWERS_SHARE: usize = 4;
+
+// The room in which a record is answered: its answers, and the longest one, which is tried behind them.
+pub(crate) const RECORD_ROOM: usize = ANSWERS_SHARE * MAX_RECORD + ANSWER_ROOM;
 
 // How many bytes of answers wait at the front of the output, and whether it can be written.
 pub struct Output {
@@ -23,7 +32,7 @@ pub struct Output {
 // Writes what waits.
 pub(crate) fn flush(output: Output, out: &mut [u8]) -> Output
     requires { ⌜ output .used ≤ length (now out) ⌝ }
-    ensures { λ r. ⌜ r .used ≤ 0 ⌝ }
+    ensures { λ r. ⌜ Flushes output (now (out .entry)) r (now (out .exit)) ⌝ }
 {
     let used = output.used;
     if !output.open {
@@ -36,14 +45,14 @@ pub(crate) fn flush(output: Output, out: &mut [u8]) -> Output
     Output { used: 0, open }
 }
 
-// Room for an answer behind what waits.
+// Room for the answers of a record behind what waits.
 pub(crate) fn with_room(output: Output, out: &mut [u8]) -> Output
     requires { ⌜ output .used ≤ length (now out) ⌝ }
-    requires { ⌜ answerRoom ≤ length (now out) ⌝ }
-    ensures { λ r. ⌜ r .used + answerRoom ≤ length (now (out .exit)) ⌝ }
+    requires { ⌜ recordRoom ≤ length (now out) ⌝ }
+    ensures { λ r. ⌜ MakesRoom output (now (out .entry)) r (now (out .exit)) ⌝ }
 {
     let left = out.len() - output.used;
-    if left < ANSWER_ROOM {
+    if left < RECORD_ROOM {
         return flush(output, out);
     }
     output
@@ -52,7 +61,7 @@ pub(crate) fn with_room(output: Output, out: &mut [u8]) -> Output
 // The head of an answer in front of its bytes, which stand in the output already.
 pub(crate) fn put_answer(output: Output, out: &mut [u8], kind: u8, answer: Answer) -> Output
     requires { ⌜ output .used + answerHead + answerLength answer ≤ length (now out) ⌝ }
-    ensures { λ r. ⌜ r .used ≤ length (now (out .exit)) ⌝ }
+    ensures { λ r. ⌜ PutsHead kind answer output (now (out .entry)) r (now (out .exit)) ⌝ }
 {
     let at = output.used;
     let size = answer.length();
@@ -69,8 +78,8 @@ pub(crate) fn put_answer(output: Output, out: &mut [u8], kind: u8, answer: Answe
 
 // The answer to a record of no kind, and to one that is not all there.
 pub(crate) fn put_unknown(output: Output, out: &mut [u8]) -> Output
-    requires { ⌜ output .used + answerRoom ≤ length (now out) ⌝ }
-    ensures { λ r. ⌜ r .used ≤ length (now (out .exit)) ⌝ }
+    requires { ⌜ output .used + answerHead ≤ length (now out) ⌝ }
+    ensures { λ r. ⌜ Appends unknownAnswer output (now (out .entry)) r (now (out .exit)) ⌝ }
 {
     put_answer(output, out, b'?', Answer::Refused(Refusal::Incomplete))
 }

@@ -1,22 +1,24 @@
--- The place is within the bytes and grows by a record, and what waits lies in the output.
+-- The records up to the place are answered, and the place grows by one with each turn (`Passing`).
+use Rattle.van_box.proofs.Passing.{passing-none, passing-more, size-none, closed}
+use Rattle.van_box.specs.Passing.{Passing}
 use Prim.Native.Nat.{_≤_, _-_}
-use mathlib.Core.Path.{_≡_, _∙_}
+use mathlib.Core.Path.{_≡_, refl, _∙_}
 use native.Mathlib.Omega.{arith}
 use lib.ListN.{length}
-use Rattle.van_box.specs.Sizes.{answerRoom}
+use Rattle.van_box.specs.Sizes.{recordRoom}
 use borrow.Author.Needs.{needs}
 use Rattle.van_box.proofs.answer_records.Statement.{statement}
 use Rattle.van_box.proofs.answer_records.Tie as tie
 
 abbrev Inv-loop : tie.InvT-loop
 Inv-loop state₀ bytes out₀ output₀ at₀ state out output at =
-    (at ≤ length bytes) × (output .used ≤ length out) × (answerRoom ≤ length out) × (length out ≡ length out₀)
+    (Passing state₀ bytes output at state out) × (recordRoom ≤ length out) × (length out ≡ length out₀)
 
 abbrev μ-loop : tie.MeasureT-loop
 μ-loop state₀ bytes out₀ output₀ at₀ state out output at = length bytes - at
 
 loop-holds : tie.Need-loop-holds Inv-loop μ-loop
-loop-holds c = search needs
+loop-holds c = let s = c .before .before in (passing-none (s .args .state .now) (s .args .bytes .now) _ (s .args .out .now) refl, s .pre, refl)
 
 record-size-requires : tie.Need-record-size-requires Inv-loop μ-loop
 record-size-requires c κs = search needs
@@ -51,26 +53,26 @@ loop-less c = search needs
 loop-again : tie.Need-loop-again Inv-loop μ-loop
 loop-again c =
     let k = c .before .before .answer-record in
-    let w = c .before .before .before .before .before .before .before .before .with-room in
-    let n = c .before .before .before .before .before .before .before .before .before .before .before .before in
+    let r = c .before .before .before .before .before .before .before .before in
+    let n = r .before .before .before .before in
+    let w = r .with-room in
     let i = n .before .before .loop .inv in (
-      omega (arith, n .record-size .ensures),
-      k .ensures,
-      omega (arith, k .kept .1 .1 .1 .0, w .kept .1 .0, i .2),
-      k .kept .1 .1 .1 .0 ∙ w .kept .1 .0 ∙ i .3,
+      passing-more (i .0) (n .record-size .ensures) (r .before .before .before .if1 .left) (w .ensures) (k .ensures),
+      omega (arith, k .kept .1 .1 .1 .0, w .kept .1 .0, i .1),
+      k .kept .1 .1 .1 .0 ∙ w .kept .1 .0 ∙ i .2,
     )
 
 same-length : tie.Need-same-length Inv-loop μ-loop
 same-length c = search needs
 
 returns : tie.Need-returns Inv-loop μ-loop
-returns c = search needs
+returns c = record { records = c .before .loop .inv .0; all = closed _ (c .loop-test .left) }
 
 same-length-2 : tie.Need-same-length-2 Inv-loop μ-loop
 same-length-2 c = search needs
 
 returns-2 : tie.Need-returns-2 Inv-loop μ-loop
-returns-2 c = search needs
+returns-2 c = record { records = c .before .before .before .loop .inv .0; all = λ e. size-none _ _ (c .before .record-size .ensures) (c .if1 .taken) }
 
 pub answer-records-spec : {M : Type 1} → statement M
 answer-records-spec =

@@ -1,6 +1,7 @@
--- What was handed back lies in the output, by `answer-room`.
+-- What was handed back lies in the output behind the head, by `answer-room`, and is the answer, by `handed-back`.
 use native.Mathlib.Omega.{arith}
 use Rattle.van_box.proofs.Rooms.{answer-room}
+use Rattle.van_box.proofs.Outcomes.{handed-back}
 use borrow.Author.Needs.{needs}
 use Rattle.van_box.proofs.answers.capsule_record.Statement.{statement}
 use Rattle.van_box.proofs.answers.capsule_record.Tie as tie
@@ -30,7 +31,10 @@ same-length : tie.Need-same-length
 same-length c = search needs
 
 returns : tie.Need-returns
-returns c = search needs
+returns c =
+    let s = c .before .before .before .before .before .before .before .before .before .before .before .before in
+    let w = c .before .before .before .before .before .before .next-capsule in
+    handed-back (s .args .output) (s .args .out .now) (s .pre) (w .kept .1 .1 .1 .0) (w .ensures) (c .before .before .put-answer .ensures)
 
 pub capsule-record-spec : {M : Type 1} → statement M
 capsule-record-spec =

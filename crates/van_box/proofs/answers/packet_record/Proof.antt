@@ -1,6 +1,7 @@
--- What was written lies in the output, by `answer-room`.
+-- What was written lies in the output behind the head, by `answer-room`, and is the answer, by `sent`.
 use native.Mathlib.Omega.{arith}
 use Rattle.van_box.proofs.Rooms.{answer-room}
+use Rattle.van_box.proofs.Outcomes.{sent}
 use borrow.Author.Needs.{needs}
 use Rattle.van_box.proofs.answers.packet_record.Statement.{statement}
 use Rattle.van_box.proofs.answers.packet_record.Tie as tie
@@ -22,7 +23,7 @@ send-requires c κs = search needs
 
 put-answer-requires : tie.Need-put-answer-requires
 put-answer-requires c κs =
-    let s = c .before .before .before .before .before .before .before .before .before in
+    let s = c .before .before .before .before .before .before .before .before in
     let w = c .before .before .before .send in
     answer-room (s .args .out .now) _ (omega (arith, s .pre)) (w .ensures .writes) (w .kept .1 .1 .0)
 
@@ -30,31 +31,10 @@ same-length : tie.Need-same-length
 same-length c = search needs
 
 returns : tie.Need-returns
-returns c = search needs
-
-sub-receive : tie.Need-sub-receive
-sub-receive c = search needs
-
-part-receive-start : tie.Need-part-receive-start
-part-receive-start c = search needs
-
-part-receive-end : tie.Need-part-receive-end
-part-receive-end c = search needs
-
-receive-requires : tie.Need-receive-requires
-receive-requires c κs = search needs
-
-put-answer-requires-2 : tie.Need-put-answer-requires-2
-put-answer-requires-2 c κs =
-    let s = c .before .before .before .before .before .before .before .before .before in
-    let w = c .before .before .before .receive in
-    answer-room (s .args .out .now) _ (omega (arith, s .pre)) (w .ensures .writes) (w .kept .1 .1 .0)
-
-same-length-2 : tie.Need-same-length-2
-same-length-2 c = search needs
-
-returns-2 : tie.Need-returns-2
-returns-2 c = search needs
+returns c =
+    let s = c .before .before .before .before .before .before .before .before .before .before .before in
+    let w = c .before .before .before .before .before .before .send in
+    sent (s .args .output) (s .args .out .now) (s .pre) (w .kept .1 .1 .0) (w .ensures) (c .before .before .put-answer .ensures)
 
 pub packet-record-spec : {M : Type 1} → statement M
 packet-record-spec =
@@ -67,11 +47,4 @@ packet-record-spec =
     send-requires
     put-answer-requires
     same-length
-    returns
-    sub-receive
-    part-receive-start
-    part-receive-end
-    receive-requires
-    put-answer-requires-2
-    same-length-2
-    returns-2)
+    returns)

@@ -1,44 +1,51 @@
--- The place grows with each turn, and what waits lies in the output.
-use Prim.Native.Nat.{_≤_, _-_}
-use mathlib.Core.Path.{_≡_}
-use native.Mathlib.Omega.{arith}
+-- What is answered and what is left to answer are all of it (`Streaming`); each turn passes a capsule.
+use Prim.Native.Nat.{_-_}
 use lib.ListN.{length}
-use Rattle.van_box.specs.Sizes.{answerRoom}
+use native.Mathlib.Omega.{arith}
+use Rattle.van_box.proofs.Streaming.{Streaming, stream-start, stream-room, stream-stopped, stream-ended, stream-goes-on}
 use borrow.Author.Needs.{needs}
 use Rattle.van_box.proofs.answers.stream_record.Statement.{statement}
 use Rattle.van_box.proofs.answers.stream_record.Tie as tie
 
 abbrev Inv-loop : tie.InvT-loop
-Inv-loop state₀ bytes out₀ step₀ at₀ next₀ state out step at next = (step .output .used ≤ length out) × (answerRoom ≤ length out) × (length out ≡ length out₀)
+Inv-loop state₀ bytes out₀ waiting₀ at₀ state out waiting at = Streaming state₀ bytes waiting₀ out₀ state out waiting at
 
 abbrev μ-loop : tie.MeasureT-loop
-μ-loop state₀ bytes out₀ step₀ at₀ next₀ state out step at next = length bytes - at
-
-capsule-record-requires : tie.Need-capsule-record-requires Inv-loop μ-loop
-capsule-record-requires c κs = search needs
+μ-loop state₀ bytes out₀ waiting₀ at₀ state out waiting at = length bytes - at
 
 loop-holds : tie.Need-loop-holds Inv-loop μ-loop
-loop-holds c = search needs
+loop-holds c = let s = c .before .before in stream-start (s .args .state .now) (s .args .bytes .now) (s .args .output) (s .args .out .now)
 
-with-room-requires : tie.Need-with-room-requires Inv-loop μ-loop
-with-room-requires c κs = search needs
-
-capsule-record-requires-2 : tie.Need-capsule-record-requires-2 Inv-loop μ-loop
-capsule-record-requires-2 c κs = search needs
-
-loop-less : tie.Need-loop-less Inv-loop μ-loop
-loop-less c =
-    let i = c .before .before .before .before .before .before .before .before .before .before in
-    omega (arith, i .before .loop-test .taken, i .if1 .left)
-
-loop-again : tie.Need-loop-again Inv-loop μ-loop
-loop-again c = search needs
+capsule-record-requires : tie.Need-capsule-record-requires Inv-loop μ-loop
+capsule-record-requires c κs =
+    let p = c .before .before .before .before .before .pre in
+    stream-room (c .before .before .loop .inv) (p .0) (p .1)
 
 same-length : tie.Need-same-length Inv-loop μ-loop
 same-length c = search needs
 
 returns : tie.Need-returns Inv-loop μ-loop
-returns c = search needs
+returns c =
+    let i = c .before .before .before .before .before .before .before .loop .inv in
+    stream-stopped i (c .before .before .before .before .capsule-record .ensures) (omega (arith, c .if1 .taken))
+
+same-length-2 : tie.Need-same-length-2 Inv-loop μ-loop
+same-length-2 c = search needs
+
+returns-2 : tie.Need-returns-2 Inv-loop μ-loop
+returns-2 c =
+    let i = c .before .before .before .before .before .before .before .before .loop .inv in
+    let k = c .before .before .before .before .before .capsule-record .ensures in
+    stream-ended i k (omega (arith, c .before .if1 .left)) (omega (arith, c .if2 .taken))
+
+loop-less : tie.Need-loop-less Inv-loop μ-loop
+loop-less c = omega (arith, c .before .if1 .left, c .if2 .left)
+
+loop-again : tie.Need-loop-again Inv-loop μ-loop
+loop-again c =
+    let i = c .before .before .before .before .before .before .before .before .loop .inv in
+    let k = c .before .before .before .before .before .capsule-record .ensures in
+    stream-goes-on i k (omega (arith, c .before .if1 .left)) (omega (arith, c .if2 .left))
 
 pub stream-record-spec : {M : Type 1} → statement M
 stream-record-spec =
@@ -46,11 +53,11 @@ stream-record-spec =
     (tie.spec
     Inv-loop
     μ-loop
-    capsule-record-requires
     loop-holds
-    with-room-requires
-    capsule-record-requires-2
-    loop-less
-    loop-again
+    capsule-record-requires
     same-length
-    returns)
+    returns
+    same-length-2
+    returns-2
+    loop-less
+    loop-again)

@@ -1,14 +1,13 @@
--- The place is within what is left, and a store keeps the length.
+-- The first i bytes are moved, and those from i on are as they were.
+use Rattle.van_box.proofs.Held.{Moved, moved-none, moved-more, moved-all, kept-here}
 use Prim.Native.Nat.{_≤_, _-_}
 use native.Mathlib.Omega.{arith}
-use mathlib.Core.Path.{_≡_, refl}
-use lib.ListN.{length, length-set}
 use borrow.Author.Needs.{needs}
 use Rattle.van_box.proofs.incoming.keep.Statement.{statement}
 use Rattle.van_box.proofs.incoming.keep.Tie as tie
 
 abbrev Inv-loop : tie.InvT-loop
-Inv-loop input₀ at end left i₀ input i = (i ≤ left) × (length input ≡ length input₀)
+Inv-loop input₀ at end left i₀ input i = (i ≤ left) × (Moved at i input₀ input)
 
 abbrev μ-loop : tie.MeasureT-loop
 μ-loop input₀ at end left i₀ input i = left - i
@@ -17,19 +16,19 @@ sub-left : tie.Need-sub-left Inv-loop μ-loop
 sub-left c = search needs
 
 returns : tie.Need-returns Inv-loop μ-loop
-returns c = search needs
+returns c = kept-here (c .before .args .end) (c .before .args .input .now) (c .if1 .taken)
 
 loop-holds : tie.Need-loop-holds Inv-loop μ-loop
-loop-holds c = (omega arith, refl)
+loop-holds c = (omega arith, moved-none _ _)
 
 add-input : tie.Need-add-input Inv-loop μ-loop
 add-input c = search needs
 
 slice-read-input : tie.Need-slice-read-input Inv-loop μ-loop
-slice-read-input c = search needs
+slice-read-input c = omega (arith, c .before .before .loop .inv .1 .size)
 
 slice-write-input : tie.Need-slice-write-input Inv-loop μ-loop
-slice-write-input c = search needs
+slice-write-input c = omega (arith, c .before .before .loop .inv .1 .size)
 
 add-i : tie.Need-add-i Inv-loop μ-loop
 add-i c = search needs
@@ -38,13 +37,13 @@ loop-less : tie.Need-loop-less Inv-loop μ-loop
 loop-less c = search needs
 
 loop-again : tie.Need-loop-again Inv-loop μ-loop
-loop-again c = (omega arith, simp length-set (c .before .before .loop .inv .1))
+loop-again c = (omega arith, moved-more (c .before .before .loop .inv .1) (omega arith))
 
 same-length : tie.Need-same-length Inv-loop μ-loop
-same-length c = c .before .loop .inv .1
+same-length c = c .before .loop .inv .1 .size
 
 returns-2 : tie.Need-returns-2 Inv-loop μ-loop
-returns-2 c = search needs
+returns-2 c = moved-all (c .before .loop .inv .1) (c .before .loop .inv .0) (c .loop-test .left)
 
 pub keep-spec : {M : Type 1} → statement M
 keep-spec =

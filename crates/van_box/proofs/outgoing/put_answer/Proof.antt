@@ -1,6 +1,7 @@
--- A store keeps the length, and there is room for the head and the bytes.
+-- A store keeps the length, and the four stores are the head, by `puts-head`.
 use native.Mathlib.Omega.{arith}
 use lib.ListN.{length-set}
+use Rattle.van_box.proofs.Heads.{puts-head}
 use borrow.Author.Needs.{needs}
 use Rattle.van_box.proofs.outgoing.put_answer.Statement.{statement}
 use Rattle.van_box.proofs.outgoing.put_answer.Tie as tie
@@ -48,7 +49,10 @@ same-length : tie.Need-same-length
 same-length c = search needs
 
 returns : tie.Need-returns
-returns c = simp length-set (omega (arith, c .before .length .ensures, c .before .before .before .pre))
+returns c =
+    let s = c .before .before .before in
+    puts-head (s .args .kind) (s .args .answer) (s .args .output) (s .args .out .now) (c .number .ensures) (c .before .length .ensures) (s .pre) (omega arith)
+    (omega arith)
 
 pub put-answer-spec : {M : Type 1} → statement M
 put-answer-spec =
