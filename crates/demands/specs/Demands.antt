@@ -64,7 +64,7 @@ use Rattle.ends.proofs.Refusals.{plainly-leaves, plainly-gives-leaves, plainly-
 use Rattle.ends.proofs.WrittenBack.{datagram-back, assign-back, request-back, routes-back}
 use Rattle.ends.proofs.Passing.{allowed-passes, passes-allowed, passes-lowers, allowed-taken, taken-allowed, taken-unchanged}
 use Rattle.ends.proofs.Passing.{icmp-out, icmp-out-reply, icmp-in, icmp-in-reply, icmp-4-not-58}
-use Rattle.ends.proofs.Choosing.{fit-short, none-full, none-wire}
+use Rattle.ends.proofs.Choosing.{fit-short, none-full, none-wire, zero-none}
 use Rattle.ends.proofs.Agreeing.{alike, takes-in-sent, mirrored-zero, damaged-alike, lowered-apart, twins-one}
 use Rattle.ends.proofs.Crossing.{exchanged-mirror, whole-way, fresh-sound}
 
@@ -277,6 +277,10 @@ module _ (s : State) (p out : List ℕ) (passed : Passes s p out) where
 
     pub full-wire : readNumber (datagramOf s p out) ≡ Whole 0 1
     full-wire = none-wire s p out passed none
+
+  -- so that a datagram with 0 in front says that none fits
+  pub none-fits-if-full : readNumber (datagramOf s p out) ≡ Whole 0 1 → (t : Template) → In t (s .templates) → fits t (lowered p) ≡ false
+  none-fits-if-full = zero-none s p out passed
 
   -- the other end holds the same templates
   module _ (other : State) (same : other .templates ≡ s .templates) where

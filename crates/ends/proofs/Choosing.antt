@@ -1,11 +1,11 @@
 -- The form of a packet on the wire: the short form of the lowest template that fits, or the full form. Assumes nothing.
 use Prim.Native.Nat.{ℕ}
 use mathlib.Core.Path.{_≡_, refl, sym, ap, _∙_}
-use mathlib.Core.Bool.{true, false}
+use mathlib.Core.Bool.{Bool, true, false}
 use mathlib.Core.List.{List}
 use native.Mathlib.Omega.{arith}
 use Rattle.varint.specs.declared.NumberRead.the-variants.{Whole}
-use Rattle.varint.specs.Numbers.{readNumber, encode, encodedSize}
+use Rattle.varint.specs.Numbers.{readNumber, valueIn, encode, encodedSize}
 use Rattle.varint.proofs.RoundTrip.{read-encode}
 use Rattle.inet.specs.Packet.{lowered}
 use Rattle.table.specs.Templates.{Template}
@@ -59,3 +59,14 @@ module _ (s : State) (p out : List ℕ) (passed : Passes s p out) where
     pub none-wire : readNumber (datagramOf s p out) ≡ Whole 0 1
     unfolding fullForm encode encodedSize
     none-wire = ap readNumber none-full ∙ read-encode 0 (lowered p) (omega arith)
+
+  -- a datagram that starts with 0 is in full
+  not-short : readNumber (datagramOf s p out) ≡ Whole 0 1 → SentShort s p out → ⊥
+  not-short e k = k .not-zero (ap valueIn (sym (k .wire) ∙ e))
+
+  pub zero-none : readNumber (datagramOf s p out) ≡ Whole 0 1 → (t : Template) → In t (s .templates) → fits t (lowered p) ≡ false
+  zero-none e t i = of (fits t (lowered p)) refl
+    where
+      of : (b : Bool) → fits t (lowered p) ≡ b → b ≡ false
+      of true f = absurd (not-short e (fit-short t i f))
+      of false f = refl
