@@ -54,7 +54,7 @@ use Rattle.template.specs.Members.{In}
 use Rattle.template.specs.Fits.{fits}
 use Rattle.template.specs.Datagrams.{fullForm, packet, opened}
 use Rattle.tunnel.specs.Tunnel.{sendRoom, receiveRoom, Sends, Receives}
-use Rattle.tunnel.specs.Answers.{receiveAnswer, receiveOutput, Passes, datagramOf, packetOf}
+use Rattle.tunnel.specs.Answers.{sendAnswer, sendOutput, receiveAnswer, receiveOutput, Passes, datagramOf, packetOf}
 use Rattle.tunnel_c.specs.declared.PlainAnswer.{PlainAnswer}
 use Rattle.tunnel_c.specs.declared.capsules.PlainCapsule.{PlainCapsule}
 use Rattle.tunnel_c.specs.Plain.{plainAnswer, Plainly, ReadsPlainly, AssignsPlainly, AdvertisesPlainly}
@@ -62,7 +62,7 @@ use Rattle.ends.specs.Outcomes.{Leaves, ReadBack, Consumed, allowedOut, allowed
 use Rattle.ends.proofs.Refusals.{writes-leaves, gives-leaves, load-leaves, state-load-leaves, hand-leaves, consumed}
 use Rattle.ends.proofs.Refusals.{plainly-leaves, plainly-gives-leaves, plainly-read-leaves}
 use Rattle.ends.proofs.WrittenBack.{datagram-back, assign-back, request-back, routes-back}
-use Rattle.ends.proofs.Passing.{allowed-passes, passes-allowed, passes-lowers, allowed-taken, taken-allowed, taken-unchanged}
+use Rattle.ends.proofs.Passing.{sends-answer, receives-answer, allowed-passes, passes-allowed, passes-lowers, allowed-taken, taken-allowed, taken-unchanged}
 use Rattle.ends.proofs.Passing.{icmp-out, icmp-out-reply, icmp-in, icmp-in-reply, icmp-4-not-58}
 use Rattle.ends.proofs.Choosing.{fit-short, none-full, none-wire, zero-none}
 use Rattle.ends.proofs.Agreeing.{alike, takes-in-sent, mirrored-zero, damaged-alike, lowered-apart, twins-one}
@@ -215,6 +215,15 @@ addresses-value-given = assign-value-gives
 pub routes-value-given : (w v before : List ℕ) {r : Answer} {left after : List ℕ} → stateWords ≤ length w → AdvertisesValue w v before r left after
     → (n : ℕ) → r ≡ Done n → stateIn left ≡ routesGiven (stateIn w) (rangesTaken v)
 routes-value-given = advertise-value-gives
+
+-- what is said below of `sendAnswer`, `sendOutput`, `receiveAnswer` and `receiveOutput` is said of what the two entry points answer and leave
+pub send-answers : (w p : List ℕ) {before after : List ℕ} {r : Answer} → Sends w p before r after
+    → (r ≡ sendAnswer (stateIn w) p before) × (after ≡ sendOutput (stateIn w) p before)
+send-answers = sends-answer
+
+pub receive-answers : (w d : List ℕ) {before after : List ℕ} {r : Answer} → Receives w d before r after
+    → (r ≡ receiveAnswer (stateIn w) d before) × (after ≡ receiveOutput (stateIn w) d before)
+receive-answers = receives-answer
 
 -- with room, a packet passes exactly when size, form, hop count and the grants in force allow it
 pub passes-if-allowed : (s : State) (p out : List ℕ) → sendRoom ≤ length out → soundState s ≡ true → allowedOut s p ≡ true → Passes s p out

@@ -6,6 +6,7 @@ use mathlib.Core.List.{List}
 use borrow.Author.Tests.{leb-true, le-leb}
 use lib.Dec.{leb}
 use lib.ListN.{length}
+use Rattle.answer.specs.declared.Answer.{Answer}
 use Rattle.answer.specs.Number.{answerNumber}
 use Rattle.answer.proofs.Tests.{and-both}
 use Rattle.octets.specs.Scan.{anyOf}
@@ -14,15 +15,26 @@ use Rattle.inet.proofs.LoweredLaws.{lowered-hopsOf}
 use Rattle.inet.proofs.FormFacts.{form-facts}
 use Rattle.policy.specs.Granted.{flowOf, covers, holds, reversed}
 use Rattle.policy.proofs.PassLaws.{passes-reversed, passes-icmp}
-use Rattle.state.specs.State.{State, soundState, sendingGranted, receivingGranted}
+use Rattle.state.specs.State.{State, soundState, sendingGranted, receivingGranted, stateIn}
 use Rattle.template.specs.Datagrams.{maxPacket, packet, opened}
-use Rattle.tunnel.specs.Tunnel.{sendRoom, receiveRoom, openedVerdict, receivedBytes}
-use Rattle.tunnel.specs.Answers.{receiveAnswer, Passes, packetOf}
+use Rattle.tunnel.specs.Tunnel.{sendRoom, receiveRoom, openedVerdict, receivedBytes, Sends, Receives}
+use Rattle.tunnel.specs.Answers.{sendAnswer, sendOutput, receiveAnswer, receiveOutput, Passes, packetOf}
 use Rattle.tunnel.proofs.SendingLaws.{go-send}
 use Rattle.tunnel.proofs.ReceivingLaws.{receive-go, receive-opened, facts-packet, received-packet}
 use Rattle.tunnel.proofs.Answered.{passes-go, verdict-passes, receive-zero, received-go, packet-front}
 use Rattle.ends.specs.Outcomes.{allowedOut, allowedIn, TakesIn}
 use Rattle.ends.proofs.Agreeing.{received-in}
+
+-- answer and output are those of the contracts
+pub sends-answer : (w p : List ℕ) {before after : List ℕ} {r : Answer} → Sends w p before r after
+    → (r ≡ sendAnswer (stateIn w) p before) × (after ≡ sendOutput (stateIn w) p before)
+unfolding sendAnswer sendOutput
+sends-answer w p k = (k .writes .answer, k .writes .output)
+
+pub receives-answer : (w d : List ℕ) {before after : List ℕ} {r : Answer} → Receives w d before r after
+    → (r ≡ receiveAnswer (stateIn w) d before) × (after ≡ receiveOutput (stateIn w) d before)
+unfolding receiveAnswer receiveOutput
+receives-answer w d k = (k .writes .answer, k .writes .output)
 
 module _ (s : State) (p out : List ℕ) where
   pub allowed-passes : sendRoom ≤ length out → soundState s ≡ true → allowedOut s p ≡ true → Passes s p out
