@@ -40,15 +40,16 @@ use Rattle.table.proofs.Encoded as Encoded
 use Rattle.table.proofs.Written.{written-read}
 use Rattle.table.proofs.Packed.{read-sound, read-means}
 use Rattle.state.specs.State.{State, soundState, sendingGranted, receivingGranted, Mirrors, addressesReceived, routesReceived, addressesGiven, routesGiven}
-use Rattle.state.specs.State.{stateWords, stateIn}
+use Rattle.state.specs.State.{templatesLoaded, stateWords, stateIn}
 use Rattle.state.specs.Loading.{LoadsPlan}
 use Rattle.exchange.specs.Reading.{readingIn, ReadsCapsule}
 use Rattle.exchange.specs.Writing.{Gives, Assigns, Advertises, AssignsValue, AdvertisesValue, RequestsValue, entriesTaken, rangesTaken}
 use Rattle.exchange.specs.declared.handing.CapsuleAnswered.{CapsuleAnswered}
 use Rattle.exchange.specs.Handing.{HandsBack}
-use Rattle.exchange.proofs.ReadLaws.{read-refusal-leaves, assign-replaces, advertise-replaces}
+use Rattle.exchange.proofs.ReadLaws.{read-refusal-leaves, read-keeps-sound, assign-replaces, advertise-replaces}
 use Rattle.exchange.proofs.WriteLaws.{assign-gives, advertise-gives, assign-received, advertise-received}
-use Rattle.exchange.proofs.WriteLaws.{assign-value-gives, advertise-value-gives}
+use Rattle.exchange.proofs.WriteLaws.{assign-value-gives, advertise-value-gives, assign-keeps-sound, advertise-keeps-sound}
+use Rattle.exchange.proofs.WriteLaws.{assign-value-keeps-sound, advertise-value-keeps-sound}
 use Rattle.ends.specs.Ends.{Exchanged}
 use Rattle.template.specs.Members.{In}
 use Rattle.template.specs.Fits.{fits}
@@ -58,12 +59,13 @@ use Rattle.tunnel.specs.Answers.{sendAnswer, sendOutput, receiveAnswer, receive
 use Rattle.tunnel_c.specs.declared.PlainAnswer.{PlainAnswer}
 use Rattle.tunnel_c.specs.declared.capsules.PlainCapsule.{PlainCapsule}
 use Rattle.tunnel_c.specs.Plain.{plainAnswer, Plainly, ReadsPlainly, AssignsPlainly, AdvertisesPlainly}
-use Rattle.ends.specs.Outcomes.{Leaves, ReadBack, Consumed, allowedOut, allowedIn, SentShort, TakesIn, Twins}
+use Rattle.ends.specs.Outcomes.{Leaves, ReadBack, Consumed, StaysSound, allowedOut, allowedIn, SentShort, TakesIn, Twins}
 use Rattle.ends.proofs.Refusals.{writes-leaves, gives-leaves, load-leaves, state-load-leaves, hand-leaves, consumed}
 use Rattle.ends.proofs.Refusals.{plainly-leaves, plainly-gives-leaves, plainly-read-leaves}
 use Rattle.ends.proofs.WrittenBack.{datagram-back, assign-back, request-back, routes-back}
 use Rattle.ends.proofs.Passing.{sends-answer, receives-answer, allowed-passes, passes-allowed, passes-lowers, allowed-taken, taken-allowed, taken-unchanged}
 use Rattle.ends.proofs.Passing.{icmp-out, icmp-out-reply, icmp-in, icmp-in-reply, icmp-4-not-58}
+use Rattle.ends.proofs.SoundStates.{file-loaded, load-keeps-sound, hand-keeps-sound}
 use Rattle.ends.proofs.Choosing.{fit-short, none-full, none-wire, zero-none}
 use Rattle.ends.proofs.Agreeing.{alike, takes-in-sent, mirrored-zero, damaged-alike, lowered-apart, twins-one}
 use Rattle.ends.proofs.Crossing.{exchanged-mirror, whole-way, fresh-sound}
@@ -215,6 +217,39 @@ addresses-value-given = assign-value-gives
 pub routes-value-given : (w v before : List ℕ) {r : Answer} {left after : List ℕ} → stateWords ≤ length w → AdvertisesValue w v before r left after
     → (n : ℕ) → r ≡ Done n → stateIn left ≡ routesGiven (stateIn w) (rangesTaken v)
 routes-value-given = advertise-value-gives
+
+-- a good plan file replaces the templates whole
+pub plan-loaded : (file w after : List ℕ) {r : Verdict} → LoadsPlan file w r after → Bytes file → stateWords ≤ length w
+    → (ts : List Template) (rest : List ℕ) → planIn file ≡ found ts rest → stateIn after ≡ templatesLoaded (stateIn w) ts
+plan-loaded = file-loaded
+
+-- a fresh state, whose words are all 0, is sound, and whatever is called, a sound state stays sound: a 9 is never the box's own doing. Sending and
+-- receiving leave the state as it is
+pub fresh-is-sound : soundState (stateIn (replicate stateWords 0)) ≡ true
+fresh-is-sound = fresh-sound
+
+module _ {w later : List ℕ} (size : stateWords ≤ length w) where
+  pub read-stays-sound : {s l list : List ℕ} {at : ℕ} {r : CapsuleRead} → ReadsCapsule w s at l r later list → StaysSound w later
+  read-stays-sound k = read-keeps-sound k size
+
+  pub hand-stays-sound : {s before after : List ℕ} {at : ℕ} {r : CapsuleAnswered} → HandsBack w s at before r later after → StaysSound w later
+  hand-stays-sound k = hand-keeps-sound k size
+
+  pub load-stays-sound : (file : List ℕ) {r : Verdict} → LoadsPlan file w r later → Bytes file → StaysSound w later
+  load-stays-sound file k b = load-keeps-sound file w later k b size
+
+  module _ (l before : List ℕ) {after : List ℕ} {r : Answer} where
+    pub assign-stays-sound : length l ≡ addressWords → Assigns w l before r later after → StaysSound w later
+    assign-stays-sound n k = assign-keeps-sound w l before size n k
+
+    pub routes-stay-sound : length l ≡ routeWords → Advertises w l before r later after → StaysSound w later
+    routes-stay-sound n k = advertise-keeps-sound w l before size n k
+
+    pub assign-value-stays-sound : AssignsValue w l before r later after → StaysSound w later
+    assign-value-stays-sound k = assign-value-keeps-sound w l before size k
+
+    pub routes-value-stay-sound : AdvertisesValue w l before r later after → StaysSound w later
+    routes-value-stay-sound k = advertise-value-keeps-sound w l before size k
 
 -- what is said below of `sendAnswer`, `sendOutput`, `receiveAnswer` and `receiveOutput` is said of what the two entry points answer and leave
 pub send-answers : (w p : List ℕ) {before after : List ℕ} {r : Answer} → Sends w p before r after

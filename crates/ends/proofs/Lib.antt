@@ -3,4 +3,5 @@ pub mod WrittenBack
 pub mod Passing
 pub mod Choosing
 pub mod Agreeing
+pub mod SoundStates
 pub mod Crossing

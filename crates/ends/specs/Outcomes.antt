@@ -14,7 +14,7 @@ use Rattle.inet.specs.Packet.{form, hopsOf, lowered}
 use Rattle.capsule.specs.Capsules.{Capsule, capsule, readCapsule}
 use Rattle.capsule.specs.Sound.{valueStart}
 use Rattle.table.specs.Templates.{Template}
-use Rattle.state.specs.State.{State, sendingGranted, receivingGranted}
+use Rattle.state.specs.State.{State, soundState, sendingGranted, receivingGranted, stateIn}
 use Rattle.template.specs.Members.{In}
 use Rattle.template.specs.Fits.{fits}
 use Rattle.template.specs.Datagrams.{maxPacket, shortForm}
@@ -37,6 +37,10 @@ pub record Consumed (s : List ℕ) (size : ℕ) : Type 0 where
   pub type : readNumber s ≡ Whole kind kind-size
   pub length-read : readNumber (drop kind-size s) ≡ Whole count count-size
   pub total : size ≡ kind-size + count-size + count
+
+-- where the state w is sound, the later one is
+abbrev pub StaysSound : List ℕ → List ℕ → Type 0
+StaysSound w later = soundState (stateIn w) ≡ true → soundState (stateIn later) ≡ true
 
 -- size, form, hop count and the grants in force allow a packet to be sent; form and grants allow one to be taken in
 abbrev pub allowedOut : State → List ℕ → Bool
