@@ -42,11 +42,13 @@ use Rattle.table.proofs.Packed.{read-sound, read-means}
 use Rattle.state.specs.State.{State, soundState, sendingGranted, receivingGranted, Mirrors, addressesReceived, routesReceived, addressesGiven, routesGiven}
 use Rattle.state.specs.State.{templatesLoaded, stateWords, stateIn}
 use Rattle.state.specs.Loading.{LoadsPlan}
+use Rattle.state.proofs.LoadLaws.{file-loaded, load-keeps-sound}
 use Rattle.exchange.specs.Reading.{readingIn, ReadsCapsule}
 use Rattle.exchange.specs.Writing.{Gives, Assigns, Advertises, AssignsValue, AdvertisesValue, RequestsValue, entriesTaken, rangesTaken}
 use Rattle.exchange.specs.declared.handing.CapsuleAnswered.{CapsuleAnswered}
 use Rattle.exchange.specs.Handing.{HandsBack}
 use Rattle.exchange.proofs.ReadLaws.{read-refusal-leaves, read-keeps-sound, assign-replaces, advertise-replaces}
+use Rattle.exchange.proofs.HandingLaws.{hand-keeps-sound}
 use Rattle.exchange.proofs.WriteLaws.{assign-gives, advertise-gives, assign-received, advertise-received}
 use Rattle.exchange.proofs.WriteLaws.{assign-value-gives, advertise-value-gives, assign-keeps-sound, advertise-keeps-sound}
 use Rattle.exchange.proofs.WriteLaws.{assign-value-keeps-sound, advertise-value-keeps-sound}
@@ -65,7 +67,6 @@ use Rattle.ends.proofs.Refusals.{plainly-leaves, plainly-gives-leaves, plainly-
 use Rattle.ends.proofs.WrittenBack.{datagram-back, assign-back, request-back, routes-back}
 use Rattle.ends.proofs.Passing.{sends-answer, receives-answer, allowed-passes, passes-allowed, passes-lowers, allowed-taken, taken-allowed, taken-unchanged}
 use Rattle.ends.proofs.Passing.{icmp-out, icmp-out-reply, icmp-in, icmp-in-reply, icmp-4-not-58}
-use Rattle.ends.proofs.SoundStates.{file-loaded, load-keeps-sound, hand-keeps-sound}
 use Rattle.ends.proofs.Choosing.{fit-short, none-full, none-wire, zero-none}
 use Rattle.ends.proofs.Agreeing.{alike, takes-in-sent, mirrored-zero, damaged-alike, lowered-apart, twins-one}
 use Rattle.ends.proofs.Crossing.{exchanged-mirror, whole-way, fresh-sound}

@@ -3,5 +3,4 @@ pub mod WrittenBack
 pub mod Passing
 pub mod Choosing
 pub mod Agreeing
-pub mod SoundStates
 pub mod Crossing

@@ -4,3 +4,4 @@ pub mod WriteCases
 pub mod HandingCases
 pub mod ReadLaws
 pub mod WriteLaws
+pub mod HandingLaws

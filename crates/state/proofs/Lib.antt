@@ -1,3 +1,4 @@
 pub mod StateLaws
 pub mod StoreLaws
 pub mod LoadCases
+pub mod LoadLaws

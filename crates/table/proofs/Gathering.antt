@@ -11,7 +11,7 @@ use Rattle.answer.specs.declared.Refusal.the-variants.{PlanCut}
 use Rattle.answer.specs.declared.Verdict.the-variants.{Go, Stop}
 use borrow.Rule.Slice.PartMut.{putMid}
 use Rattle.octets.specs.Parts.{part, withPart}
-use Rattle.octets.proofs.Parts.{is-part, put-part}
+use Rattle.octets.proofs.Parts.{is-part, put-part, length-with-part}
 use Rattle.table.specs.declared.reading.SegmentAt.{SegmentAt}
 use Rattle.table.specs.declared.reading.StoredAt.{StoredAt}
 use Rattle.table.specs.declared.reading.TemplateAt.{TemplateAt}
@@ -23,7 +23,7 @@ use Rattle.table.specs.Found.{pieceAt, bodyWords, PieceFound, PiecesFoun
 use Rattle.table.proofs.RuleCases.{segment-facts}
 use Rattle.table.proofs.Steps.{told-go, told-stop}
 use Rattle.table.proofs.Finding.{piece-found}
-use Rattle.table.proofs.Storing.{length-with, segment-size, segment-stored}
+use Rattle.table.proofs.Storing.{segment-size, segment-stored}
 use Rattle.table.proofs.Packing.{Sized, sized-more, table-blank, table-put}
 
 -- ---- steps
@@ -232,7 +232,7 @@ module _ {s : List ℕ} {n : ℕ} {w : List ℕ} {previous next i : ℕ} (a : Co
         let re : mapped (λ ts. a .done ++ ts) (mapped (λ ts. u ∷ ts) (templatesIn (n - (i + 1)) (u .id) (drop (r .next) s))) ≡ templatesIn n 0 (drop 6 s) =
         rw (more-templates, told-go e (f .same)) at (a .rest)
         in
-        let sz : length w₁ ≡ length w = ap length now ∙ length-with w t (1 + i * templateWords) templateWords (f .size) (omega (arith, a .size)) in
+        let sz : length w₁ ≡ length w = ap length now ∙ length-with-part w (1 + i * templateWords) templateWords t (f .size) (omega (arith, a .size)) in
         record {
           done = a .done ++ (u ∷ []);
           count = rw (length-append, a .count);

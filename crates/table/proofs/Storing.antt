@@ -4,10 +4,11 @@ use mathlib.Core.Path.{_≡_, refl, sym, ap, _∙_}
 use mathlib.Core.List.{List, [], _∷_, _++_, map, append-assoc}
 use native.Mathlib.Nat.{not-suc-le-zero, le-of-suc-le-suc}
 use native.Mathlib.Omega.{arith}
-use lib.ListN.{length, take, drop, getD, set, replicate, length-set, length-append, length-drop}
+use lib.ListN.{length, take, drop, getD, set, replicate, length-set}
 use lib.Seq.{take-append-add, drop-append-add, set-append-left, drop-set-add, getD-drop, take-add, drop-at, drop-drop, length-take-le}
 use Rattle.octets.specs.Parts.{withPart}
 use Rattle.octets.specs.Scan.{from}
+use Rattle.octets.proofs.Parts.{length-with-part}
 use Rattle.octets.proofs.Scans.{from-suc, from-same}
 use Rattle.table.specs.declared.Segment.{Segment}
 use Rattle.table.specs.Limits.{maxSegments, staticLimit}
@@ -100,11 +101,6 @@ with-append xs ys v b d =
     ∙ ap (λ (m : List ℕ). (xs ++ take b ys) ++ (v ++ m)) (drop-append-add xs ys d)
     ∙ append-assoc xs (take b ys) (v ++ drop d ys)
 
-pub length-with : (w v : List ℕ) (a n : ℕ) → length v ≡ n → a + n ≤ length w → length (withPart w a (a + n) v) ≡ length w
-length-with w v a n e h =
-    let l : length (take a w) ≡ a = length-take-le a w (omega arith) in
-    rw (length-append, length-append, l, length-drop) (omega arith)
-
 -- ---- one segment with its bytes
 
 image-snoc : (image : List ℕ) (ps : List Piece) (p : Piece)
@@ -138,7 +134,7 @@ module _ (t : List ℕ) (ps : List Piece) (p : Piece) (few : length ps < maxSegm
 
   -- its bytes stored in the image
   pub segment-size : length (withPart two (imageAt + p .offset) (imageAt + p .offset + length (p .bytes)) (p .bytes)) ≡ templateWords
-  segment-size = length-with two (p .bytes) (imageAt + p .offset) (length (p .bytes)) refl (omega (arith, two-size)) ∙ two-size
+  segment-size = length-with-part two (imageAt + p .offset) (length (p .bytes)) (p .bytes) refl (omega (arith, two-size)) ∙ two-size
 
   pub segment-stored : drop headWords (withPart two (imageAt + p .offset) (imageAt + p .offset + length (p .bytes)) (p .bytes)) ≡ bodyWords (ps ++ (p ∷ []))
   segment-stored =

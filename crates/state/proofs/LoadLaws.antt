@@ -1,4 +1,4 @@
--- What a plan file leaves in the state: its templates, and nothing else changes; and that every call leaves a sound state sound. Assumes nothing.
+-- What a plan file leaves in the state: its templates, nothing else changes, and a sound state stays sound. Assumes nothing.
 use Prim.Native.Nat.{ℕ, zero, suc, _*_, _≤_}
 use mathlib.Core.Bool.{true}
 use mathlib.Core.Path.{_≡_, refl, ap, _∙_}
@@ -6,24 +6,17 @@ use mathlib.Core.List.{List, [], _∷_}
 use native.Mathlib.Omega.{arith}
 use lib.ListN.{length, replicate, length-append, length-replicate}
 use Rattle.answer.specs.declared.Verdict.{Verdict}
-use Rattle.answer.specs.declared.Verdict.the-variants.{Go, Stop}
-use Rattle.answer.specs.Verdict.{kept}
 use Rattle.octets.specs.Big.{Bytes}
-use Rattle.capsule.specs.Results.{resultAt}
 use Rattle.table.specs.Limits.{maxTemplates}
 use Rattle.table.specs.Templates.{Template}
 use Rattle.table.specs.Words.{templateWords, tableWords, packTemplate, templatesWords, packTable}
 use Rattle.table.specs.File.{Step, stop, found, planIn}
 use Rattle.table.proofs.SoundCases.{TemplatesOk, AllOk, sound-ok}
 use Rattle.table.proofs.Packed.{length-packed, read-sound, read-means}
 use Rattle.state.specs.State.{soundState, templatesLoaded, stateWords, stateIn}
 use Rattle.state.specs.Loading.{withTemplates, LoadsPlan}
 use Rattle.state.proofs.StateLaws.{sound-templates-loaded}
 use Rattle.state.proofs.StoreLaws.{templates-put}
-use Rattle.exchange.specs.declared.handing.CapsuleAnswered.{CapsuleAnswered}
-use Rattle.exchange.specs.Reading.{readingIn, received, requested, ReadsCapsule}
-use Rattle.exchange.specs.Handing.{handingVerdict, HandsBack}
-use Rattle.exchange.proofs.ReadLaws.{read-keeps-sound}
 
 -- ---- the words of sound templates fill a table
 length-words : (k previous : ℕ) (ts : List Template) → TemplatesOk previous ts → length ts ≤ k → length (templatesWords k ts) ≡ k * templateWords
@@ -36,7 +29,7 @@ length-words (suc k) previous (t ∷ ts) o h =
     length-append (packTemplate t) (templatesWords k ts)
     ∙ omega (arith, length-packed previous t (o .0), length-words k (t .id) ts (o .1) (omega arith))
 
-length-table : (ts : List Template) → AllOk ts → length (packTable ts) ≡ tableWords
+pub length-table : (ts : List Template) → AllOk ts → length (packTable ts) ≡ tableWords
 unfolding packTable
 length-table ts o = ap suc (length-words maxTemplates 0 ts (o .each) (o .few))
 
@@ -54,16 +47,3 @@ module _ (file w after : List ℕ) {r : Verdict} (k : LoadsPlan file w r after) 
       of : (x : Step (List Template)) → planIn file ≡ x → soundState (stateIn after) ≡ true
       of (stop why) e = ap (λ (v : List ℕ). soundState (stateIn v)) (k .words ∙ ap (λ (x : Step (List Template)). withTemplates x w) e) ∙ s
       of (found ts rest) e = ap soundState (file-loaded ts rest e) ∙ sound-templates-loaded (stateIn w) s ts (read-sound file b e)
-
--- ---- a capsule of the stream
-reads : (w s : List ℕ) (at : ℕ) → ReadsCapsule w s at [] (resultAt at (readingIn w s at)) (received w (readingIn w s at)) (requested [] (readingIn w s at))
-reads w s at = record { answer = refl; state = refl; requested = refl }
-
-pub hand-keeps-sound : {w s : List ℕ} {at : ℕ} {before : List ℕ} {r : CapsuleAnswered} {later after : List ℕ} → HandsBack w s at before r later after
-    → stateWords ≤ length w → soundState (stateIn w) ≡ true → soundState (stateIn later) ≡ true
-hand-keeps-sound {w} {s} {at} {before} k h g =
-    ap (λ (v : List ℕ). soundState (stateIn v)) (k .state) ∙ of (handingVerdict w s at (length before))
-  where
-    of : (v : Verdict) → soundState (stateIn (kept v (received w (readingIn w s at)) w)) ≡ true
-    of Go = read-keeps-sound (reads w s at) h g
-    of (Stop why) = g
