@@ -1,7 +1,7 @@
 -- What any receiver with the sender's templates answers to a datagram: from `open-datagram`, by which both forms stand for the packet. Assumes nothing.
 use Prim.Native.Nat.{ℕ, _-_, _%_, _≤_}
 use mathlib.Core.Path.{_≡_, refl, sym, ap, _∙_}
-use mathlib.Core.List.{List, _++_}
+use mathlib.Core.List.{List}
 use native.Mathlib.Omega.{arith}
 use lib.ListN.{length, getD}
 use Rattle.answer.specs.Number.{answerNumber}

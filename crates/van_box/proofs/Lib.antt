@@ -5,3 +5,4 @@ pub mod Outcomes
 pub mod Shares
 pub mod Streaming
 pub mod Passing
+pub mod SoundStates
