@@ -1,19 +1,16 @@
 -- The lines of a plan part by part, as the code puts them. Assumes nothing.
 use Prim.Native.Nat.{ℕ, _+_, _-_, _<_, _≤_}
 use mathlib.Core.Bool.{true, false}
-use mathlib.Core.Path.{_≡_, ap, _∙_}
-use mathlib.Core.List.{List, [], _∷_, _++_, map}
-use native.Mathlib.Nat.{sub-zero}
+use mathlib.Core.Path.{_≡_, ap}
+use mathlib.Core.List.{List, _++_}
 use lib.ListN.{length}
-use Rattle.octets.specs.Scan.{from}
-use Rattle.octets.proofs.Scans.{from-more, from-end}
 use Rattle.output.specs.Places.{Put}
 use Rattle.output.proofs.Placing.{put-then, put-as, Putting, putting-first}
 use Rattle.table.specs.declared.Head.{Head}
-use Rattle.table.specs.Templates.{Template, staticSize}
+use Rattle.table.specs.Templates.{staticSize}
 use Rattle.table.specs.Words.{headOf, templateOf, countIn, wordsAt, templatesOf}
-use Rattle.table.specs.Sound.{UsableTemplate, Usable}
-use Rattle.table.proofs.Judging.{length-pieces, id-of, sum-of, templates-by, length-templates}
+use Rattle.table.proofs.InTurn.{templatesFrom, templates-step}
+use Rattle.table.proofs.Judging.{length-pieces, id-of, sum-of, length-templates}
 use Rattle.plan_show.specs.Text.{ascii, decimal}
 use Rattle.plan_show.specs.Lines.{labelled, lastLabelled, sumText, templateLine, templateLines, tableLines}
 use Rattle.plan_show.proofs.Rooms.{room-first, room-next, room-as}
@@ -84,31 +81,17 @@ module _ (t : List ℕ) {h : Head} (q : h ≡ headOf t) where
 
 -- ---- the templates of a table
 
--- n templates from i on
-abbrev pub templatesFrom : List ℕ → ℕ → ℕ → List Template
-templatesFrom w i n = map templateOf (from (wordsAt w) i n)
-
 module _ (w : List ℕ) where
-  pub templates-start : templateLines (templatesFrom w 0 (countIn w - 0)) ≡ templateLines (templatesOf w)
-  templates-start = rw (sub-zero, templates-by w)
+  pub templates-more : (i n : ℕ) {t : List ℕ} → i < n → t ≡ wordsAt w i
+      → templateLines (templatesFrom w i (n - i)) ≡ templateLine (templateOf t) ++ templateLines (templatesFrom w (i + 1) (n - (i + 1)))
+  templates-more i n h q = rw q (ap templateLines (templates-step w i n h))
 
-  module _ (i n : ℕ) where
-    pub templates-more : {t : List ℕ} → i < n → t ≡ wordsAt w i
-        → templateLines (templatesFrom w i (n - i)) ≡ templateLine (templateOf t) ++ templateLines (templatesFrom w (i + 1) (n - (i + 1)))
-    templates-more h q = rw q (ap (λ (ts : List (List ℕ)). templateLines (map templateOf ts)) (from-more (wordsAt w) i n h))
-
-    -- there is room for the next
-    pub template-room : {t all before out : List ℕ} {start next : ℕ} → i < n → t ≡ wordsAt w i
-        → Putting (templateLines (templatesFrom w i (n - i))) all start before next out → start + length all ≤ length before
-        → next + length (templateLine (templateOf t)) ≤ length out
-    template-room {t} h q p r =
-        putting-first p (templateLine (templateOf t)) (templateLines (templatesFrom w (i + 1) (n - (i + 1)))) (templates-more h q) r
-
-    pub templates-none : n ≤ i → templateLines (templatesFrom w i (n - i)) ≡ []
-    templates-none h = ap (λ (ts : List (List ℕ)). templateLines (map templateOf ts)) (from-end (wordsAt w) i n h)
-
-  pub usable-at : (i : ℕ) {t : List ℕ} → Usable w → i < countIn w → t ≡ wordsAt w i → UsableTemplate t
-  usable-at i u h q = rw q (u .all i h)
+  -- there is room for the next
+  pub template-room : (i n : ℕ) {t all before out : List ℕ} {start next : ℕ} → i < n → t ≡ wordsAt w i
+      → Putting (templateLines (templatesFrom w i (n - i))) all start before next out → start + length all ≤ length before
+      → next + length (templateLine (templateOf t)) ≤ length out
+  template-room i n {t} h q p r =
+      putting-first p (templateLine (templateOf t)) (templateLines (templatesFrom w (i + 1) (n - (i + 1)))) (templates-more i n h q) r
 
   -- the first line says the count
   pub table-parts : lastLabelled (ascii "plan 1 templates ") (countIn w) ++ templateLines (templatesOf w) ≡ tableLines (templatesOf w)

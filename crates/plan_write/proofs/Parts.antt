@@ -14,11 +14,12 @@ use Rattle.output.proofs.Placing.{put-then, put-as, Putting, putting-first}
 use Rattle.table.specs.declared.Segment.{Segment}
 use Rattle.table.specs.declared.Head.{Head}
 use Rattle.table.specs.Limits.{maxSegments, staticLimit}
-use Rattle.table.specs.Templates.{Piece, Template, sumAt}
+use Rattle.table.specs.Templates.{Piece, sumAt}
 use Rattle.table.specs.Words.{byteAt, segmentAt, headOf, window, pieceOf, templateOf, countIn, wordsAt, templatesOf}
 use Rattle.table.specs.File.{mark, version, pieceBytes, piecesBytes, sumBytes, templateBytes, templatesBytes, planBytes}
-use Rattle.table.specs.Sound.{SumFacts, UsableTemplate, Usable}
-use Rattle.table.proofs.Judging.{length-piece, id-of, sum-of, templates-by, length-templates}
+use Rattle.table.specs.Sound.{SumFacts, UsableTemplate}
+use Rattle.table.proofs.InTurn.{templatesFrom, templates-step}
+use Rattle.table.proofs.Judging.{length-piece, id-of, sum-of, length-templates}
 use Rattle.table.proofs.Judging as Judging
 
 -- ---- static bytes
@@ -136,17 +137,10 @@ put-head x y z = put-then x (put-then y z)
 
 -- ---- the templates of a table
 
--- n templates from i on
-abbrev pub templatesFrom : List ℕ → ℕ → ℕ → List Template
-templatesFrom w i n = map templateOf (from (wordsAt w) i n)
-
 module _ (w : List ℕ) where
-  pub templates-start : templatesBytes (templatesFrom w 0 (countIn w - 0)) ≡ templatesBytes (templatesOf w)
-  templates-start = rw (sub-zero, templates-by w)
-
   pub templates-more : (i n : ℕ) {t : List ℕ} → i < n → t ≡ wordsAt w i
       → templatesBytes (templatesFrom w i (n - i)) ≡ templateBytes (templateOf t) ++ templatesBytes (templatesFrom w (i + 1) (n - (i + 1)))
-  templates-more i n h q = rw q (ap (λ (ts : List (List ℕ)). templatesBytes (map templateOf ts)) (from-more (wordsAt w) i n h))
+  templates-more i n h q = rw q (ap templatesBytes (templates-step w i n h))
 
   -- there is room for the next
   pub template-room : (i n : ℕ) {t all before out : List ℕ} {start next : ℕ} → i < n → t ≡ wordsAt w i
@@ -154,12 +148,6 @@ module _ (w : List ℕ) where
       → next + length (templateBytes (templateOf t)) ≤ length out
   template-room i n {t} h q p r =
       putting-first p (templateBytes (templateOf t)) (templatesBytes (templatesFrom w (i + 1) (n - (i + 1)))) (templates-more i n h q) r
-
-  pub usable-at : (i : ℕ) {t : List ℕ} → Usable w → i < countIn w → t ≡ wordsAt w i → UsableTemplate t
-  usable-at i u h q = rw q (u .all i h)
-
-  pub templates-none : (i n : ℕ) → n ≤ i → templatesBytes (templatesFrom w i (n - i)) ≡ []
-  templates-none i n h = ap (λ (ts : List (List ℕ)). templatesBytes (map templateOf ts)) (from-end (wordsAt w) i n h)
 
   -- ---- the file
 

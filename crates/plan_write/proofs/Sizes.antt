@@ -10,13 +10,14 @@ use Rattle.answer.proofs.Tests.{order, true-or-false}
 use Rattle.varint.specs.Numbers.{encode}
 use Rattle.varint.proofs.Encoding.{length-encode, size-one, size-two, size-bounds}
 use Rattle.table.specs.Limits.{maxSegments, staticLimit}
-use Rattle.table.specs.Templates.{Piece, pieceEnd}
+use Rattle.table.specs.Templates.{Template, Piece, pieceEnd}
 use Rattle.table.specs.Words.{headOf, templateOf, countIn, wordsAt, templatesOf}
 use Rattle.table.specs.Rules.{planRoom}
 use Rattle.table.specs.File.{pieceBytes, piecesBytes, sumBytes, templateBytes, templatesBytes, planBytes}
 use Rattle.table.specs.Sound.{Ascends, UsableTemplate, Usable}
+use Rattle.table.proofs.InTurn.{templatesFrom, templates-all}
 use Rattle.table.proofs.Judging.{length-pieces}
-use Rattle.plan_write.proofs.Parts.{sum-none, length-sum, sum-place, length-template, templatesFrom, templates-start, length-plan}
+use Rattle.plan_write.proofs.Parts.{sum-none, length-sum, sum-place, length-template, length-plan}
 
 -- an offset or a length within the limit takes two bytes at most
 encode-small : (v : ℕ) → v ≤ staticLimit → length (encode v) ≤ 2
@@ -74,6 +75,7 @@ module _ (t : List ℕ) (u : UsableTemplate t) where
 
 module _ (w : List ℕ) (u : Usable w) where
   templates-most : (n i : ℕ) → i + n ≤ countIn w → length (templatesBytes (templatesFrom w i n)) ≤ templateMost * n
+  unfolding templatesFrom
   templates-most zero i h = omega arith
   templates-most (suc n) i h =
       omega (
@@ -88,7 +90,7 @@ module _ (w : List ℕ) (u : Usable w) where
       omega (
         arith,
         length-plan w,
-        ap length (templates-start w),
+        ap (λ (ts : List Template). length (templatesBytes ts)) (templates-all w),
         templates-most (countIn w - 0) 0 (omega arith),
         u .few,
       )

@@ -15,3 +15,4 @@ pub mod Encoded
 pub mod Written
 pub mod Packed
 pub mod StaticBytes
+pub mod InTurn

@@ -12,9 +12,10 @@ use borrow.Author.Tests.{le-leb, lt-leb, eq-eqb, ne-eqb}
 use Rattle.octets.specs.Scan.{from}
 use Rattle.octets.proofs.Scans.{from-more, from-end, length-from}
 use Rattle.table.specs.Sound.{SumFacts, SoundTemplate}
-use Rattle.table.specs.Templates.{Piece, sumAt, Template}
+use Rattle.table.specs.Templates.{Piece, sumAt}
 use Rattle.table.specs.Limits.{maxTemplates}
-use Rattle.table.specs.Words.{templateWords, tableWords, window, pieceOf, segmentAt, templateOf, wordsAt, templatesOf, byteAt, countIn, headOf}
+use Rattle.table.specs.Words.{templateWords, tableWords, window, pieceOf, segmentAt, templateOf, wordsAt, byteAt, headOf}
+use Rattle.table.proofs.InTurn.{templatesFrom, templates-step, templates-done}
 use Rattle.template.specs.Pieces.{begins, fitsPieces}
 use Rattle.template.specs.Fits.{fitsSum, fits, full, short, firstFit, withId, listed, missing}
 use Rattle.template.specs.Usable.{piecesOf, SumPlace}
@@ -110,22 +111,6 @@ wordsFrom w i = take (1 + i * templateWords + templateWords - (1 + i * templateW
 -- it is all there
 pub words-length : (w : List ℕ) (i : ℕ) → tableWords ≤ length w → i < maxTemplates → templateWords ≤ length (wordsFrom w i)
 words-length w i h k = simp (length-take, length-drop) (omega arith)
-
-unfoldable pub templatesFrom : List ℕ → ℕ → ℕ → List Template
-templatesFrom w i n = map templateOf (from (wordsAt w) i n)
-
-module _ (w : List ℕ) where
-  pub templates-all : templatesOf w ≡ templatesFrom w 0 (countIn w - 0)
-  unfolding templatesOf templatesFrom
-  templates-all = let e : countIn w - 0 ≡ countIn w = omega arith in rw e
-
-  pub templates-step : (i n : ℕ) → i < n → templatesFrom w i (n - i) ≡ templateOf (wordsAt w i) ∷ templatesFrom w (i + 1) (n - (i + 1))
-  unfolding templatesFrom
-  templates-step i n h = ap (map templateOf) (from-more (wordsAt w) i n h)
-
-  pub templates-done : (i n : ℕ) → n ≤ i → templatesFrom w i (n - i) ≡ []
-  unfolding templatesFrom
-  templates-done i n h = ap (map templateOf) (from-end (wordsAt w) i n h)
 
 -- the search for a template that fits
 module _ (w : List ℕ) (p : List ℕ) (i n : ℕ) where

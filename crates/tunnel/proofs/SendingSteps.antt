@@ -30,7 +30,8 @@ use Rattle.template.specs.Pieces.{strip}
 use Rattle.template.specs.Fits.{Choice, full, firstFit}
 use Rattle.template.specs.Datagrams.{seeded, shortForm, fullForm, datagram}
 use Rattle.template.specs.Usable.{Chosen, Seedable, Shortenable, piecesOf}
-use Rattle.template.proofs.Steps.{templates-all, find-done}
+use Rattle.table.proofs.InTurn.{templates-all}
+use Rattle.template.proofs.Steps.{find-done}
 use Rattle.template.proofs.ChosenLaws.{chosen-full, chosen-short, chosen-fits, chosen-usable, fits-seedable, fits-shortenable}
 use Rattle.tunnel.specs.Tunnel.{sentBytes}
 use Rattle.tunnel.specs.Sending.{Sendable, Puttable, Shortable}

@@ -1,11 +1,13 @@
 -- The invariant: what is left to put completes the lines (`Putting`).
 use Prim.Native.Nat.{_-_, _≤_}
+use mathlib.Core.Path.{ap, sym}
 use native.Mathlib.Omega.{arith}
 use Rattle.output.proofs.Placing.{Putting, putting-none, putting-more, putting-done}
 use Rattle.table.specs.Words.{templatesOf}
+use Rattle.table.proofs.InTurn.{templatesFrom, templates-all, templates-done, usable-turn}
 use Rattle.table.proofs.Judging.{words-at}
 use Rattle.plan_show.specs.Lines.{templateLines}
-use Rattle.plan_show.proofs.Parts.{templatesFrom, templates-start, templates-more, template-room, templates-none, usable-at}
+use Rattle.plan_show.proofs.Parts.{templates-more, template-room}
 use borrow.Author.Needs.{needs}
 use Rattle.plan_show.proofs.lines.put_templates.Statement.{statement}
 use Rattle.plan_show.proofs.lines.put_templates.Tie as tie
@@ -20,7 +22,7 @@ shared-slice-read-n : tie.Need-shared-slice-read-n Inv-loop μ-loop
 shared-slice-read-n c = search needs
 
 loop-holds : tie.Need-loop-holds Inv-loop μ-loop
-loop-holds c = (omega arith, putting-none (templates-start (c .before .before .before .args .w .now)))
+loop-holds c = (omega arith, putting-none (ap templateLines (sym (templates-all (c .before .before .before .args .w .now)))))
 
 mul-from : tie.Need-mul-from Inv-loop μ-loop
 mul-from c = search needs
@@ -49,7 +51,7 @@ put-template-requires c κs =
     let l = c .before .before .before .loop in
     let h = c .before .before .loop-test .taken in
     let e = words-at (s .args .w .now) (l .i) in
-    (search needs, (usable-at (s .args .w .now) (l .i) (s .pre .1 .0) h e, template-room (s .args .w .now) (l .i) _ h e (l .inv .1) (s .pre .1 .1)))
+    (search needs, (usable-turn (s .args .w .now) (l .i) (s .pre .1 .0) h e, template-room (s .args .w .now) (l .i) _ h e (l .inv .1) (s .pre .1 .1)))
 
 add-i : tie.Need-add-i Inv-loop μ-loop
 add-i c = search needs
@@ -67,7 +69,7 @@ same-length : tie.Need-same-length Inv-loop μ-loop
 same-length c = c .before .loop .inv .1 .put .kept
 
 returns : tie.Need-returns Inv-loop μ-loop
-returns c = putting-done (c .before .loop .inv .1) (templates-none (c .before .before .before .before .before .args .w .now) (c .before .loop .i) _ (c .loop-test .left))
+returns c = putting-done (c .before .loop .inv .1) (ap templateLines (templates-done (c .before .before .before .before .before .args .w .now) (c .before .loop .i) _ (c .loop-test .left)))
 
 pub put-templates-spec : {M : Type 1} → statement M
 put-templates-spec =

@@ -19,7 +19,8 @@ use Rattle.template.specs.declared.Found.the-variants.{At, Nothing}
 use Rattle.template.specs.Pieces.{begins, fitsPieces}
 use Rattle.template.specs.Fits.{fitsSum, fits, firstFit}
 use Rattle.template.specs.Usable.{SumPlace, piecesOf, choiceAt, Chosen}
-use Rattle.template.proofs.Steps.{piecesFrom, pieces-all, fits-short, fits-long, fits-done, begins-same, begins-other, begins-done, unfit-pieces, fit-plain, fit-sum, sum-place, wordsFrom, words-length, templatesFrom, templates-all, find-next, find-here, find-done}
+use Rattle.table.proofs.InTurn.{templatesFrom, templates-all}
+use Rattle.template.proofs.Steps.{piecesFrom, pieces-all, fits-short, fits-long, fits-done, begins-same, begins-other, begins-done, unfit-pieces, fit-plain, fit-sum, sum-place, wordsFrom, words-length, find-next, find-here, find-done}
 use Rattle.template.proofs.search.find.Statement.{statement}
 use Rattle.template.proofs.search.find.Tie as tie
 

@@ -6,7 +6,8 @@ use Rattle.table.specs.Words.{headOf, countIn, wordsAt, templatesOf}
 use Rattle.table.specs.declared.Head.{Head}
 use Rattle.table.proofs.Judging.{words-at}
 use Rattle.template.specs.Fits.{withId}
-use Rattle.template.proofs.Steps.{words-length, templatesFrom, templates-all, id-next, id-here, id-done}
+use Rattle.table.proofs.InTurn.{templatesFrom, templates-all}
+use Rattle.template.proofs.Steps.{words-length, id-next, id-here, id-done}
 use borrow.Author.Needs.{needs}
 use Rattle.template.proofs.search.find_id.Statement.{statement}
 use Rattle.template.proofs.search.find_id.Tie as tie
