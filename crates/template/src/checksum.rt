@@ -19,7 +19,7 @@ use inet::transport::seed;
 use table::head_of;
 
 // Whether the field lies in the packet and holds the right checksum.
-pub fn sum_fits(packet: &[u8], field: usize, start: usize) -> bool
+pub(crate) fn sum_fits(packet: &[u8], field: usize, start: usize) -> bool
     requires { ⌜ Testable (now packet) ⌝ }
     requires { ⌜ SumPlace field start ⌝ }
     ensures { λ r. ⌜ r ≡ fitsSum (sumAt field start) (now (packet .entry)) ⌝ }
