@@ -48,10 +48,11 @@ use Rattle.exchange.specs.Writing.{Gives, Assigns, Advertises, AssignsValue, Ad
 use Rattle.exchange.specs.declared.handing.CapsuleAnswered.{CapsuleAnswered}
 use Rattle.exchange.specs.Handing.{HandsBack}
 use Rattle.exchange.proofs.ReadLaws.{read-refusal-leaves, read-keeps-sound, assign-replaces, advertise-replaces}
+use Rattle.exchange.proofs.ReadLaws.{request-handed, datagram-leaves, other-leaves}
 use Rattle.exchange.proofs.HandingLaws.{hand-keeps-sound}
 use Rattle.exchange.proofs.WriteLaws.{assign-gives, advertise-gives, assign-received, advertise-received}
 use Rattle.exchange.proofs.WriteLaws.{assign-value-gives, advertise-value-gives, assign-keeps-sound, advertise-keeps-sound}
-use Rattle.exchange.proofs.WriteLaws.{assign-value-keeps-sound, advertise-value-keeps-sound}
+use Rattle.exchange.proofs.WriteLaws.{assign-value-keeps-sound, advertise-value-keeps-sound, assign-value-received, advertise-value-received}
 use Rattle.ends.specs.Ends.{Exchanged}
 use Rattle.template.specs.Members.{In}
 use Rattle.template.specs.Fits.{fits}
@@ -188,6 +189,17 @@ pub routes-replaced : {w s : List ℕ} {at : ℕ} {l : List ℕ} {r : CapsuleRea
     → stateIn after ≡ routesReceived (stateIn w) rs
 routes-replaced = advertise-replaces
 
+-- a good type 2 hands its entries back and changes no list; a DATAGRAM and a capsule of another type change nothing
+module _ {w s : List ℕ} {at : ℕ} {l : List ℕ} {r : CapsuleRead} {after list : List ℕ} (k : ReadsCapsule w s at l r after list) (start size : ℕ) where
+  pub request-hands-back : (es : List AddressEntry) → readingIn w s at ≡ capsule (request es) start size → (after ≡ w) × (entriesOf list ≡ es)
+  request-hands-back = request-handed k start size
+
+  pub datagram-changes-nothing : (v : List ℕ) → readingIn w s at ≡ capsule (datagram v) start size → (after ≡ w) × (list ≡ l)
+  datagram-changes-nothing = datagram-leaves k start size
+
+  pub other-changes-nothing : readingIn w s at ≡ capsule unknown start size → (after ≡ w) × (list ≡ l)
+  other-changes-nothing = other-leaves k start size
+
 -- a list that was written becomes the given one whole
 pub addresses-given : (w l before : List ℕ) {r : Answer} {left after : List ℕ} → stateWords ≤ length w → length l ≡ addressWords
     → Assigns w l before r left after → (n : ℕ) → r ≡ Done n → stateIn left ≡ addressesGiven (stateIn w) (entriesOf l)
@@ -218,6 +230,16 @@ addresses-value-given = assign-value-gives
 pub routes-value-given : (w v before : List ℕ) {r : Answer} {left after : List ℕ} → stateWords ≤ length w → AdvertisesValue w v before r left after
     → (n : ℕ) → r ≡ Done n → stateIn left ≡ routesGiven (stateIn w) (rangesTaken v)
 routes-value-given = advertise-value-gives
+
+pub addresses-value-agreed : (w v before : List ℕ) {r : Answer} {left after : List ℕ} → stateWords ≤ length w → AssignsValue w v before r left after
+    → Bytes v → (n : ℕ) → r ≡ Done n → (x rest lent : List ℕ) {a : CapsuleRead} {state list : List ℕ} → stateWords ≤ length x
+    → soundState (stateIn x) ≡ true → ReadsCapsule x (take n after ++ rest) 0 lent a state list → stateIn state ≡ addressesReceived (stateIn x) (entriesTaken v)
+addresses-value-agreed = assign-value-received
+
+pub routes-value-agreed : (w v before : List ℕ) {r : Answer} {left after : List ℕ} → stateWords ≤ length w → AdvertisesValue w v before r left after
+    → Bytes v → (n : ℕ) → r ≡ Done n → (x rest lent : List ℕ) {a : CapsuleRead} {state list : List ℕ} → stateWords ≤ length x
+    → soundState (stateIn x) ≡ true → ReadsCapsule x (take n after ++ rest) 0 lent a state list → stateIn state ≡ routesReceived (stateIn x) (rangesTaken v)
+routes-value-agreed = advertise-value-received
 
 -- a good plan file replaces the templates whole
 pub plan-loaded : (file w after : List ℕ) {r : Verdict} → LoadsPlan file w r after → Bytes file → stateWords ≤ length w

@@ -1,5 +1,5 @@
--- Laws of writing a capsule against the state: the list written becomes the given one and nothing else changes, a refusal alters nothing, a sound
--- state stays sound, and the other end reads the same list. Assumes nothing.
+-- Laws of writing a capsule against the state: the list written becomes the given one and nothing else changes, a sound state stays sound, and the
+-- other end reads the same list. Assumes nothing.
 use Prim.Native.Nat.{ℕ, _≤_}
 use mathlib.Core.Bool.{true, false, not}
 use mathlib.Core.Path.{_≡_, refl, sym, ap, _∙_}
@@ -8,12 +8,11 @@ use native.Mathlib.Omega.{arith}
 use lib.ListN.{length, take, drop}
 use lib.Seq.{take-at}
 use Rattle.answer.specs.declared.Answer.{Answer}
-use Rattle.answer.specs.declared.Answer.the-variants.{Done, Refused}
-use Rattle.answer.specs.declared.Refusal.{Refusal}
+use Rattle.answer.specs.declared.Answer.the-variants.{Done}
 use Rattle.answer.specs.declared.Refusal.the-variants.{BrokenState}
 use Rattle.answer.specs.declared.Verdict.{Verdict}
 use Rattle.answer.specs.declared.Verdict.the-variants.{Go, Stop}
-use Rattle.answer.specs.Verdict.{answerOf, kept}
+use Rattle.answer.specs.Verdict.{kept}
 use Rattle.answer.proofs.Tables.{done-go, done-count, go-rest}
 use Rattle.octets.specs.Big.{Bytes}
 use Rattle.lists.specs.Words.{addressWords, routeWords, entriesOf, rangesOf, packEntries, packRanges}
@@ -37,22 +36,12 @@ use Rattle.exchange.proofs.ReadLaws.{reading-sound, assign-replaces, ad
 use Rattle.exchange.proofs.WriteCases.{parsed-all, taken-entries, taken-ranges}
 
 -- ---- any list
-refused-stop : (v : Verdict) (m : ℕ) (why : Refusal) → answerOf v m ≡ Refused why → v ≡ Stop why
-refused-stop Go m why e = let z : _≡_ {A = ℕ} 0 1 = cc in absurd (omega arith)
-refused-stop (Stop r) m why e = let z : r ≡ why = cc in ap Stop z
-
 -- a `Go` of all is a `Go` of the list
 pub ready-go : (n : ℕ) (w : List ℕ) (v : Verdict) → ready n w v ≡ Go → v ≡ Go
 unfolding withState
 ready-go n w v e = go-rest (not (soundState (stateIn w))) BrokenState v (room-go n (withState w v) e .1)
 
 module _ {v : Verdict} {m new w before : List ℕ} {r : Answer} {left after : List ℕ} (g : Gives v m new w before r left after) where
-  -- a refusal leaves the state and the output
-  pub refusal-leaves : (why : Refusal) → r ≡ Refused why → (left ≡ w) × (after ≡ before)
-  refusal-leaves why e =
-      let s = refused-stop v (length m) why (sym (g .writes .answer) ∙ e) in
-      (rw s at (g .state), rw s at (g .writes .output))
-
   -- a sound state stays sound where what is stored is
   keeps-sound : soundState (stateIn w) ≡ true → (v ≡ Go → soundState (stateIn new) ≡ true) → soundState (stateIn left) ≡ true
   keeps-sound h f = ap (λ (x : List ℕ). soundState (stateIn x)) (g .state) ∙ of v refl

@@ -1,36 +1,21 @@
 -- From the number 0 to a `Go`, and from there to the bytes that were written. Assumes nothing.
 use Prim.Native.Nat.{ℕ}
-use mathlib.Core.Path.{_≡_, refl, ap}
+use mathlib.Core.Path.{_≡_, ap}
 use mathlib.Core.List.{List, _++_}
 use lib.ListN.{length, drop}
 use lib.Seq.{take-append-seam}
 use Rattle.answer.specs.declared.Answer.the-variants.{Done}
 use Rattle.answer.specs.declared.Verdict.{Verdict}
-use Rattle.answer.specs.declared.Verdict.the-variants.{Go, Stop}
-use Rattle.answer.specs.Number.{answerNumber, answerLength}
-use Rattle.answer.specs.Verdict.{answerOf, outputOf}
+use Rattle.answer.specs.declared.Verdict.the-variants.{Go}
+use Rattle.answer.specs.Number.{answerNumber}
+use Rattle.answer.specs.Verdict.{answerOf}
 use Rattle.answer.proofs.Tables.{zero-go}
 use Rattle.state.specs.State.{State}
 use Rattle.tunnel.specs.Tunnel.{sendVerdict, sentBytes, receiveVerdict, receivedBytes}
 use Rattle.tunnel.specs.Answers.{sendAnswer, sendOutput, receiveAnswer, receiveOutput, Passes, datagramOf, packetOf}
 use Rattle.tunnel.proofs.SendingLaws.{SendGo, send-go}
 
--- a refusal says a length of 0 and leaves every byte
-left : (v : Verdict) (n : ℕ) (message out : List ℕ) → (answerNumber (answerOf v n) ≡ 0 → ⊥)
-    → (answerLength (answerOf v n) ≡ 0) × (outputOf v message out ≡ out)
-left Go n message out h = absurd (h refl)
-left (Stop r) n message out h = (refl, refl)
-
 module _ (s : State) (p out : List ℕ) where
-  pub send-left : (answerNumber (sendAnswer s p out) ≡ 0 → ⊥) → (answerLength (sendAnswer s p out) ≡ 0) × (sendOutput s p out ≡ out)
-  unfolding sendAnswer sendOutput
-  send-left h = left (sendVerdict s p (length out)) (length (sentBytes s p)) (sentBytes s p) out h
-
-  pub receive-left : (answerNumber (receiveAnswer s p out) ≡ 0 → ⊥)
-      → (answerLength (receiveAnswer s p out) ≡ 0) × (receiveOutput s p out ≡ out)
-  unfolding receiveAnswer receiveOutput
-  receive-left h = left (receiveVerdict s p (length out)) (length (receivedBytes s p)) (receivedBytes s p) out h
-
   pub passes-verdict : Passes s p out → sendVerdict s p (length out) ≡ Go
   unfolding sendAnswer
   passes-verdict e = zero-go (sendVerdict s p (length out)) (length (sentBytes s p)) e
