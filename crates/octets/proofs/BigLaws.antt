@@ -7,7 +7,7 @@ use native.Mathlib.Numerals.{add-one}
 use native.Mathlib.Omega.{arith}
 use lib.Dec.{lit<}
 use lib.ListN.{length, getD, take, drop, drop-of-length-le, length-take, length-drop, length-append}
-use lib.Seq.{drop-cons, getD-drop, append-snoc}
+use lib.Seq.{drop-cons, getD-drop, append-snoc, take-append-seam, drop-append-seam}
 use Rattle.octets.specs.Big.{bigFrom, bigAt, digits, Bytes}
 
 pub step : (acc i : ℕ) (s : List ℕ) (v : ℕ) → i < length s → bigFrom acc (drop i s) ≡ v
@@ -98,3 +98,15 @@ bytes-take (suc n) (b ∷ s) h (suc i) = bytes-take n s (λ j. h (suc j)) i
 
 pub bytes-drop : (n : ℕ) (s : List ℕ) → Bytes s → Bytes (drop n s)
 bytes-drop n s h i = rw getD-drop (h (n + i))
+
+-- bytes one after the other
+pub bytes-front : (xs ys : List ℕ) → Bytes (xs ++ ys) → Bytes xs
+bytes-front xs ys h = rw (take-append-seam xs ys) at (bytes-take (length xs) (xs ++ ys) h)
+
+pub bytes-behind : (xs ys : List ℕ) → Bytes (xs ++ ys) → Bytes ys
+bytes-behind xs ys h = rw (drop-append-seam xs ys) at (bytes-drop (length xs) (xs ++ ys) h)
+
+pub bytes-append : (xs ys : List ℕ) → Bytes xs → Bytes ys → Bytes (xs ++ ys)
+bytes-append [] ys h g i = g i
+bytes-append (x ∷ xs) ys h g zero = h 0
+bytes-append (x ∷ xs) ys h g (suc i) = bytes-append xs ys (λ j. h (suc j)) g i

@@ -6,9 +6,9 @@ use mathlib.Core.List.{List, [], _∷_, _++_, map, append-assoc}
 use native.Mathlib.Omega.{arith}
 use lib.Dec.{lit<, eqb}
 use lib.ListN.{length, take, drop, getD, replicate, length-append, length-drop, length-replicate}
-use lib.Seq.{length-take-le, drop-cons, take-append-le, take-take, take-add, drop-at, take-at, getD-append-add, take-append-seam, drop-append-seam}
+use lib.Seq.{length-take-le, drop-cons, take-append-le, take-take, take-add, drop-at, take-at, getD-append-add}
 use Rattle.octets.specs.Big.{Bytes}
-use Rattle.octets.proofs.BigLaws.{bytes-take, bytes-drop}
+use Rattle.octets.proofs.BigLaws.{bytes-take, bytes-drop, bytes-front, bytes-behind, bytes-append}
 use Rattle.octets.specs.Scan.{from}
 use Rattle.octets.proofs.Scans.{from-same}
 use Rattle.varint.specs.Numbers.{encode}
@@ -28,18 +28,7 @@ use Rattle.table.proofs.Written.{plan-written}
 
 -- ---- bytes and their parts
 
-bytes-front : (xs ys : List ℕ) → Bytes (xs ++ ys) → Bytes xs
-bytes-front xs ys h = rw (take-append-seam xs ys) at (bytes-take (length xs) (xs ++ ys) h)
-
-bytes-behind : (xs ys : List ℕ) → Bytes (xs ++ ys) → Bytes ys
-bytes-behind xs ys h = rw (drop-append-seam xs ys) at (bytes-drop (length xs) (xs ++ ys) h)
-
-bytes-append : (xs ys : List ℕ) → Bytes xs → Bytes ys → Bytes (xs ++ ys)
-bytes-append [] ys h g i = g i
-bytes-append (x ∷ xs) ys h g zero = h 0
-bytes-append (x ∷ xs) ys h g (suc i) = bytes-append xs ys (λ j. h (suc j)) g i
-
-bytes-zero : (n : ℕ) → Bytes (replicate n 0)
+pub bytes-zero : (n : ℕ) → Bytes (replicate n 0)
 bytes-zero zero i = lit< tt
 bytes-zero (suc n) zero = lit< tt
 bytes-zero (suc n) (suc i) = bytes-zero n i
