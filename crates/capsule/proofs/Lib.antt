@@ -3,6 +3,7 @@ pub mod EntryCases
 pub mod RangeCases
 pub mod Turn
 pub mod FrameCases
+pub mod HeadLaws
 pub mod Seen
 pub mod RangesTurn
 pub mod EntriesTurn
@@ -14,3 +15,5 @@ pub mod RangeBytes
 pub mod ReadFacts
 pub mod ReadLaws
 pub mod RoundTrip
+pub mod RefusalLaws
+pub mod FrontLaws

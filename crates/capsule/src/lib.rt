@@ -19,10 +19,14 @@ ghost use Prim.Native.Nat.{_≤_, min};
 ghost use lib.ListN.{length};
 ghost use Rattle.answer.specs.Number.{verdictNumber};
 ghost use Rattle.capsule.specs.Capsules.{frameOf, frameAt};
+ghost use Rattle.capsule.specs.Heads.{HeadRead};
 ghost use Rattle.capsule.specs.Results.{refusedAt, otherKind, valueVerdict, frameIn, readAt};
 
 // The most bytes of a value of types 0 to 3.
 pub const MAX_VALUE: usize = 4096;
+
+// The most bytes of type and length.
+pub const HEAD_SIZE: usize = 16;
 
 // The kind of a capsule of any other type than 0 to 3.
 pub const OTHER_KIND: u64 = 4;
@@ -35,6 +39,16 @@ pub struct CapsuleRead {
     pub start: usize,
     pub length: usize,
     pub next: usize,
+}
+
+// Type and length at the front of some bytes, and where the value starts; or they are not all there.
+pub enum Head {
+    Known {
+        kind: u64,
+        start: usize,
+        length: u64,
+    },
+    Cut,
 }
 
 // Where the value of a capsule at the front of some bytes starts, and how long it is.
@@ -127,9 +141,9 @@ fn kind_of(number: u64) -> u64
     number
 }
 
-// Type and length, and whether the value is all there.
-fn frame_of(s: &[u8]) -> FrameRead
-    ensures { λ r. ⌜ r ≡ frameOf (now (s .entry)) ⌝ }
+// Type and length.
+pub fn read_head(s: &[u8]) -> Head
+    ensures { λ r. ⌜ HeadRead (now (s .entry)) r ⌝ }
 {
     let t = varint::read(s);
     match t {
@@ -142,11 +156,30 @@ fn frame_of(s: &[u8]) -> FrameRead
                 NumberRead::Whole {
                     value: length,
                     size: m,
-                } => frame_at(s, kind, n + m, length),
-                NumberRead::Cut => FrameRead::Refused(Refusal::Incomplete),
+                } => Head::Known {
+                    kind,
+                    start: n + m,
+                    length,
+                },
+                NumberRead::Cut => Head::Cut,
             }
         }
-        NumberRead::Cut => FrameRead::Refused(Refusal::Incomplete),
+        NumberRead::Cut => Head::Cut,
+    }
+}
+
+// Type and length, and whether the value is all there.
+fn frame_of(s: &[u8]) -> FrameRead
+    ensures { λ r. ⌜ r ≡ frameOf (now (s .entry)) ⌝ }
+{
+    let h = read_head(s);
+    match h {
+        Head::Known {
+            kind,
+            start,
+            length,
+        } => frame_at(s, kind, start, length),
+        Head::Cut => FrameRead::Refused(Refusal::Incomplete),
     }
 }
 

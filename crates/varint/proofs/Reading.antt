@@ -103,6 +103,15 @@ value-below s v n h e =
     let b = value-bound s n h (size-most s v n h e) in
     omega (arith, t .value, b)
 
+-- a number that is cut has fewer than 8 bytes
+pub cut-short : (s : List ℕ) → Bytes s → readNumber s ≡ Cut → length s < 8
+cut-short s h e =
+    ⊎-elim (λ l. let p : 2 ^ (getD s 0 0 / 64) ≤ 2 ^ 3 = pow-le-pow-right (lit< tt) {j = 3} (omega (arith, form-below s h)) in omega arith)
+    (λ l.
+    let w = whole s (formSize s) (valueOf (formSize s) s) refl l refl in
+    let y : _≡_ {A = ℕ} 0 1 = cc in absurd (omega arith))
+    (order (length s) (formSize s))
+
 drop-one : (n : ℕ) (s : List ℕ) → drop 1 (take n s) ≡ take (n - 1) (drop 1 s)
 drop-one zero s = refl
 drop-one (suc n) [] = sym (take-nil (suc n - 1))
