@@ -10,7 +10,7 @@ use Rattle.octets.specs.Parts.{withPart}
 use Rattle.table.specs.Templates.{Template}
 use Rattle.table.specs.File.{Step, stop, found, planIn}
 use Rattle.table.specs.Load.{verdictIn, loaded, planRead, Loads}
-use Rattle.state.specs.State.{tableAt, stateWords}
+use Rattle.state.specs.State.{tableAt, storeAt}
 use Rattle.state.specs.Loading.{withTemplates, LoadsPlan}
 
 module _ (file w : List ℕ) {before words : List ℕ} {r : Verdict} (l : Loads file before r words) where
@@ -18,7 +18,7 @@ module _ (file w : List ℕ) {before words : List ℕ} {r : Verdict} (l : Loads 
   unfolding planRead
   read = l .verdict
 
-  taken : (x : Step (List Template)) → verdictIn x ≡ Go → withPart w tableAt stateWords (loaded x before) ≡ withTemplates x w
+  taken : (x : Step (List Template)) → verdictIn x ≡ Go → withPart w tableAt storeAt (loaded x before) ≡ withTemplates x w
   taken (found ts s) e = refl
   taken (stop why) e = absurd (let z : _≡_ {A = ℕ} 0 1 = cc in omega arith)
 
@@ -26,11 +26,11 @@ module _ (file w : List ℕ) {before words : List ℕ} {r : Verdict} (l : Loads 
   left (found ts s) e = absurd (let z : _≡_ {A = ℕ} 0 1 = cc in omega arith)
   left (stop other) e = refl
 
-  pub loads-go : {after : List ℕ} → r ≡ Go → after ≡ withPart w tableAt stateWords words → LoadsPlan file w Go after
+  pub loads-go : {after : List ℕ} → r ≡ Go → after ≡ withPart w tableAt storeAt words → LoadsPlan file w Go after
   loads-go e f =
       record {
         verdict = sym e ∙ l .verdict;
-        words = f ∙ ap (withPart w tableAt stateWords) (l .words) ∙ taken (planIn file) (sym read ∙ e);
+        words = f ∙ ap (withPart w tableAt storeAt) (l .words) ∙ taken (planIn file) (sym read ∙ e);
       }
 
   pub loads-stop : {why : Refusal} → r ≡ Stop why → LoadsPlan file w (Stop why) w

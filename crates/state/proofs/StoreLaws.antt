@@ -1,4 +1,4 @@
--- A list or the table stored in its part of a state: exactly that part means something else. Assumes nothing.
+-- A list, the table or the store's words in their part of a state: exactly that part means something else. Assumes nothing.
 use Prim.Native.Nat.{ℕ, _+_, _≤_}
 use mathlib.Core.Path.{_≡_, sym, ap, _∙_}
 use mathlib.Core.List.{List}
@@ -9,7 +9,7 @@ use Rattle.octets.proofs.Parts.{part-part, part-put, part-before, part-after}
 use Rattle.lists.specs.Words.{addressWords, routeWords, entriesOf, rangesOf}
 use Rattle.policy.specs.Granted.{sideWords}
 use Rattle.table.specs.Words.{tableWords, templatesOf}
-use Rattle.state.specs.State.{State, receivedAt, givenAt, tableAt, stateWords, stateIn}
+use Rattle.state.specs.State.{State, receivedAt, givenAt, tableAt, storeAt, storeWords, stateWords, stateIn}
 use Rattle.state.specs.State.{addressesReceived, routesReceived, addressesGiven, routesGiven, templatesLoaded}
 
 -- the parts by where they stand in the state
@@ -101,3 +101,13 @@ module _ (w v : List ℕ) (l : stateWords ≤ length w) where
         part-put w tableAt tableWords v s h,
       )
       (ap (λ (x : State). templatesLoaded x (templatesOf v)) (sym (state-parts w)))
+
+  -- the words of the store are no part of this
+  pub store-put : length v ≡ storeWords → stateIn (withPart w storeAt (storeAt + storeWords) v) ≡ stateIn w
+  store-put s =
+      let h : storeAt + storeWords ≤ length w = omega arith in
+      rw (
+        part-before w storeAt storeWords v s h receivedAt sideWords (omega arith),
+        part-before w storeAt storeWords v s h givenAt sideWords (omega arith),
+        part-before w storeAt storeWords v s h tableAt tableWords (omega arith),
+      )

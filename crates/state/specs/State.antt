@@ -69,8 +69,15 @@ givenAt = sideWords
 abbrev pub tableAt : ℕ
 tableAt = 2 * sideWords
 
+abbrev pub storeAt : ℕ
+storeAt = 2 * sideWords + tableWords
+
+-- bytes kept, bytes to skip, the refusal remembered
+abbrev pub storeWords : ℕ
+storeWords = 3
+
 abbrev pub stateWords : ℕ
-stateWords = 2 * sideWords + tableWords
+stateWords = storeAt + storeWords
 
 abbrev pub stateIn : List ℕ → State
 stateIn w =

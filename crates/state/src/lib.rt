@@ -1,5 +1,5 @@
-// The state of one tunnel, in one array of words that a host lends: what was received from the other end, what was given to it, and the table
-// of templates. The parts stand one after the other. The judge answers yes or no; loading a plan file refuses as reading it does (20 to 25).
+// The state of one tunnel, in one array of words that a host lends: what was received from the other end, what was given to it, the table
+// of templates, and what is kept of an unfinished capsule. The parts stand one after the other. The judge answers yes or no; loading a plan file refuses as reading it does (20 to 25).
 use answer::Verdict;
 use policy::SIDE_WORDS;
 use table::TABLE_WORDS;
@@ -7,7 +7,7 @@ ghost use mathlib.Core.Path.{_≡_};
 ghost use Prim.Native.Nat.{_≤_};
 ghost use lib.ListN.{length};
 ghost use Rattle.octets.specs.Parts.{withPart};
-ghost use Rattle.state.specs.State.{tableAt, stateWords, stateIn, soundState};
+ghost use Rattle.state.specs.State.{tableAt, storeAt, stateWords, stateIn, soundState};
 ghost use Rattle.state.specs.Loading.{LoadsPlan};
 
 // Where each part starts; each ends where the next starts.
@@ -17,10 +17,16 @@ pub const GIVEN_AT: usize = RECEIVED_AT + SIDE_WORDS;
 
 pub const TABLE_AT: usize = GIVEN_AT + SIDE_WORDS;
 
-// The words of a state.
-pub const STATE_WORDS: usize = TABLE_AT + TABLE_WORDS;
+pub const STORE_AT: usize = TABLE_AT + TABLE_WORDS;
 
-// Whether a state keeps its rules: those of both sides, and those of its templates.
+// The words of a store: how many bytes of a capsule are kept, how many of a skipped one are still to come, and the number of the refusal that is
+// remembered.
+pub const STORE_WORDS: usize = 3;
+
+// The words of a state.
+pub const STATE_WORDS: usize = STORE_AT + STORE_WORDS;
+
+// Whether a state keeps its rules: those of both sides, and those of its templates. The store is not looked at.
 pub fn state_sound(state: &[u64]) -> bool
     requires { ⌜ stateWords ≤ length (now state) ⌝ }
     ensures { λ r. ⌜ r ≡ soundState (stateIn (now (state .entry))) ⌝ }
@@ -31,7 +37,7 @@ pub fn state_sound(state: &[u64]) -> bool
     if !policy::side_sound(&state[GIVEN_AT..TABLE_AT]) {
         return false;
     }
-    table::table_sound(&state[TABLE_AT..STATE_WORDS])
+    table::table_sound(&state[TABLE_AT..STORE_AT])
 }
 
 // Loads the templates of a plan file. A refusal leaves every word; nothing of what the state holds is looked at.
@@ -52,7 +58,7 @@ pub fn load_plan(state: &mut [u64; STATE_WORDS], file: &[u8]) -> Verdict
 // Stores the words of a table.
 fn put_table(state: &mut [u64], words: &[u64; TABLE_WORDS])
     requires { ⌜ stateWords ≤ length (now state) ⌝ }
-    ensures { λ _. ⌜ now (state .exit) ≡ withPart (now (state .entry)) tableAt stateWords (now (words .entry)) ⌝ }
+    ensures { λ _. ⌜ now (state .exit) ≡ withPart (now (state .entry)) tableAt storeAt (now (words .entry)) ⌝ }
 {
-    octets::copy_words(words, &mut state[TABLE_AT..STATE_WORDS]);
+    octets::copy_words(words, &mut state[TABLE_AT..STORE_AT]);
 }

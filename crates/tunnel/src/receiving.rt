@@ -5,6 +5,7 @@ use answer::Answer;
 use answer::Refusal;
 use answer::Verdict;
 use state::STATE_WORDS;
+use state::STORE_AT;
 use state::TABLE_AT;
 use state::state_sound;
 use table::ContextId;
@@ -95,7 +96,7 @@ fn take_short(state: &[u64], id: ContextId, body: &[u8], out: &mut [u8]) -> Answ
     ensures { λ r. ⌜ Takes (now (state .entry)) (shortIn (now (state .entry)) (id .0) (now (body .entry))) (now (out .entry)) r (now (out .exit)) ⌝ }
 {
     let mut image = [0u8; MAX_PACKET];
-    let read = open_short(&state[TABLE_AT..STATE_WORDS], id, body, &mut image);
+    let read = open_short(&state[TABLE_AT..STORE_AT], id, body, &mut image);
     match read {
         OpenRead::Refused(r) => Answer::Refused(r),
         OpenRead::Packet(n) => take_in(state, &image[..n], out),

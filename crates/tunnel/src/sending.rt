@@ -10,6 +10,7 @@ use inet::packet::hops;
 use output::put_byte;
 use output::put_bytes;
 use state::STATE_WORDS;
+use state::STORE_AT;
 use state::TABLE_AT;
 use state::state_sound;
 use table::TEMPLATE_WORDS;
@@ -42,7 +43,7 @@ pub fn send(state: &[u64; STATE_WORDS], packet: &[u8], out: &mut [u8]) -> Answer
         Verdict::Go => {
             let mut image = [0u8; MAX_PACKET];
             let words = &state[..];
-            let n = put_datagram(&words[TABLE_AT..STATE_WORDS], packet, &mut image, out);
+            let n = put_datagram(&words[TABLE_AT..STORE_AT], packet, &mut image, out);
             Answer::Done(n)
         }
     }

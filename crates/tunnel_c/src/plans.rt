@@ -2,6 +2,7 @@
 use super::PlainAnswer;
 use super::plain;
 use state::STATE_WORDS;
+use state::STORE_AT;
 use state::TABLE_AT;
 use table::TABLE_WORDS;
 ghost use Rattle.answer.specs.Number.{verdictNumber};
@@ -28,7 +29,7 @@ pub extern "C" fn whapirohi_write_plan(state: &[u64; STATE_WORDS], out: &mut [u8
 {
     let all = &state[..];
     let mut words = [0u64; TABLE_WORDS];
-    octets::copy_words(&all[TABLE_AT..STATE_WORDS], &mut words);
+    octets::copy_words(&all[TABLE_AT..STORE_AT], &mut words);
     let answer = plan_write::write_plan(&words, out);
     plain(answer)
 }

@@ -4,7 +4,7 @@ use native.Mathlib.Omega.{arith}
 use borrow.Rule.Slice.PartMut.{putMid}
 use Rattle.octets.proofs.Parts.{put-part}
 use Rattle.table.specs.Words.{tableWords}
-use Rattle.state.specs.State.{tableAt, stateWords}
+use Rattle.state.specs.State.{tableAt, storeAt}
 use borrow.Author.Needs.{needs}
 use Rattle.state.proofs.put_table.Statement.{statement}
 use Rattle.state.proofs.put_table.Tie as tie
@@ -27,7 +27,7 @@ same-length c = search needs
 returns : tie.Need-returns
 returns c =
     let a = c .before .before .before .before .before .before .args in
-    ap (putMid tableAt tableWords (a .state .now)) (c .before .before .copy-words .ensures) ∙ put-part (a .state .now) tableAt stateWords (a .words .now) (omega arith)
+    ap (putMid tableAt tableWords (a .state .now)) (c .before .before .copy-words .ensures) ∙ put-part (a .state .now) tableAt storeAt (a .words .now) (omega arith)
 
 pub put-table-spec : {M : Type 1} → statement M
 put-table-spec =
