@@ -51,7 +51,7 @@ module _ {A : Type 0} (f : Format A) where
       rw (not-false (f .sound x) (a .0)) (judged-sound (x ∷ earlier) xs (b .1))
 
   -- elements of at most so many bytes
-  written-most : (most : ℕ) → ((x : A) → length (f .bytes x) ≤ most) → (xs : List A) → length (written f xs) ≤ most * length xs
+  pub written-most : (most : ℕ) → ((x : A) → length (f .bytes x) ≤ most) → (xs : List A) → length (written f xs) ≤ most * length xs
   written-most most h [] = omega arith
   written-most most h (x ∷ xs) =
       rw mul-suc (omega (arith, length-append (f .bytes x) (written f xs), h x, written-most most h xs))

@@ -24,7 +24,7 @@ use Rattle.capsule.specs.Results.{otherKind, refusedAt, judgedAt, resultAt, rea
 use Rattle.capsule.proofs.ValueCases as Value
 use Rattle.state.specs.State.{stateIn, soundState}
 use Rattle.exchange.specs.Reading.{receiveAddresses, receiveRoutes, received, requested, readingIn, receivedValue, requestedValue}
-use Rattle.exchange.specs.Reading.{ReadsCapsule, TakesList, TakesAssign, TakesRoutes, TakesRequest, TakesValue}
+use Rattle.exchange.specs.Reading.{ReadsCapsule, TakesCapsule, TakesList, TakesAssign, TakesRoutes, TakesRequest, TakesValue}
 
 -- ---- a list that was taken from a value, or not
 module _ (p : Parsed AddressEntry) where
@@ -152,36 +152,32 @@ module _ (w v l : List ℕ) (start : ℕ) where
 
 -- ---- the capsule
 module _ (w s : List ℕ) (at : ℕ) (l : List ℕ) where
+  -- a frame that is refused
+  pub read-refused : {f : CapsuleRead} {why : Refusal} → f ≡ frameIn s at → f .verdict ≡ Stop why → TakesCapsule w s at l f w l
+  unfolding readAt
+  read-refused {f} {why} e g =
+      let q = Value.refused-reading s at f why e g in
+      record { answer = Value.frame-refused s at f why e g; state = sym (ap (received w) q); requested = sym (ap (requested l) q) }
+
+  -- the value of a frame that was found
+  pub read-taken : {f r : CapsuleRead} {after list : List ℕ} → (k : Value.Found s at f) → TakesValue w (Value.valueIn s f) f at l r after list
+      → TakesCapsule w s at l r after list
+  unfolding readAt
+  read-taken {f} {r} {after} {list} k t =
+      let q = Value.reading k in
+      let b = value-left w (Value.valueIn s f) l (k .behind) (f .kind) (Value.kind-within k) (Value.value-short k) in
+      record {
+        answer = t .answer ∙ sym (Value.judged-value k);
+        state = t .state ∙ sym (ap (received w) q ∙ b .0);
+        requested = t .requested ∙ sym (ap (requested l) q ∙ b .1);
+      }
+
+  -- the state is judged first
   pub read-broken : {r : CapsuleRead} → soundState (stateIn w) ≡ false → r ≡ refusedAt at BrokenState → ReadsCapsule w s at l r w l
   unfolding readingIn
   read-broken f e = record { answer = rw f e; state = rw f; requested = rw f }
 
-  module _ (h : soundState (stateIn w) ≡ true) where
-    sound-reading : readingIn w s at ≡ readCapsule (drop at s)
-    unfolding readingIn
-    sound-reading = rw h
-
-    -- a frame that is refused
-    pub read-refused : {f : CapsuleRead} {why : Refusal} → f ≡ frameIn s at → f .verdict ≡ Stop why → ReadsCapsule w s at l f w l
-    unfolding readAt
-    read-refused {f} {why} e g =
-        let a = Value.frame-refused s at f why e g in
-        let q = Value.refused-reading s at f why e g in
-        record {
-          answer = a ∙ ap (resultAt at) (sym sound-reading);
-          state = sym (ap (received w) (sound-reading ∙ q));
-          requested = sym (ap (requested l) (sound-reading ∙ q));
-        }
-
-    -- the value of a frame that was found
-    pub read-taken : {f r : CapsuleRead} {after list : List ℕ} → (k : Value.Found s at f) → TakesValue w (Value.valueIn s f) f at l r after list
-        → ReadsCapsule w s at l r after list
-    unfolding readAt
-    read-taken {f} {r} {after} {list} k t =
-        let q = sound-reading ∙ Value.reading k in
-        let b = value-left w (Value.valueIn s f) l (k .behind) (f .kind) (Value.kind-within k) (Value.value-short k) in
-        record {
-          answer = t .answer ∙ sym (ap (resultAt at) sound-reading ∙ Value.judged-value k);
-          state = t .state ∙ sym (ap (received w) q ∙ b .0);
-          requested = t .requested ∙ sym (ap (requested l) q ∙ b .1);
-        }
+  pub read-sound-state : {r : CapsuleRead} {after list : List ℕ} → soundState (stateIn w) ≡ true → TakesCapsule w s at l r after list
+      → ReadsCapsule w s at l r after list
+  unfolding readingIn
+  read-sound-state h t = record { answer = rw h (t .answer); state = rw h (t .state); requested = rw h (t .requested) }

@@ -45,22 +45,22 @@ module _ (w s : List ℕ) (at : ℕ) where
       of true q = (refl, q)
       of false q = let z : _≡_ {A = ℕ} 0 1 = cc in absurd (omega arith)
 
-refused-only : (at : ℕ) (q : Reading) (why : Refusal) → resultAt at q .verdict ≡ Stop why → q ≡ refused why
+pub refused-only : (at : ℕ) (q : Reading) (why : Refusal) → resultAt at q .verdict ≡ Stop why → q ≡ refused why
 refused-only at (refused r) why e = let z : r ≡ why = cc in ap refused z
 refused-only at (capsule c start size) why e = let z : _≡_ {A = ℕ} 0 1 = cc in absurd (omega arith)
 
 -- ---- what is in force afterwards
 module _ (w : List ℕ) (h : stateWords ≤ length w) where
-  entries-received : (es : List AddressEntry) → Sound (assign es) → stateIn (receiveAddresses w (packEntries es)) ≡ addressesReceived (stateIn w) es
+  pub entries-received : (es : List AddressEntry) → Sound (assign es) → stateIn (receiveAddresses w (packEntries es)) ≡ addressesReceived (stateIn w) es
   entries-received es (sound-assign r) =
       received-addresses-put w (packEntries es) h (length-pack-entries es) ∙ ap (addressesReceived (stateIn w)) (entries-packed false es r)
 
-  ranges-received : (rs : List RouteRange) → Sound (advertise rs) → stateIn (receiveRoutes w (packRanges rs)) ≡ routesReceived (stateIn w) rs
+  pub ranges-received : (rs : List RouteRange) → Sound (advertise rs) → stateIn (receiveRoutes w (packRanges rs)) ≡ routesReceived (stateIn w) rs
   ranges-received rs (sound-advertise r) =
       received-routes-put w (packRanges rs) h (length-pack-ranges rs) ∙ ap (routesReceived (stateIn w)) (ranges-packed rs r)
 
   -- a capsule that keeps the rules leaves a sound state
-  taken-sound : soundState (stateIn w) ≡ true → (c : Capsule) → Sound c → soundState (stateIn (taken w c)) ≡ true
+  pub taken-sound : soundState (stateIn w) ≡ true → (c : Capsule) → Sound c → soundState (stateIn (taken w c)) ≡ true
   taken-sound g c (sound-datagram l) = g
   taken-sound g c (sound-assign {es} r) =
       ap soundState (entries-received es (sound-assign r)) ∙ sound-addresses-received (stateIn w) g es (addresses-sound false es r)

@@ -60,6 +60,12 @@ pub record ReadsCapsule (w s : List ℕ) (at : ℕ) (l : List ℕ) (r : CapsuleR
   pub state : after ≡ received w (readingIn w s at)
   pub requested : list ≡ requested l (readingIn w s at)
 
+-- the same where the state is not looked at
+pub record TakesCapsule (w s : List ℕ) (at : ℕ) (l : List ℕ) (r : CapsuleRead) (after list : List ℕ) : Type 0 where
+  pub answer : r ≡ resultAt at (readCapsule (drop at s))
+  pub state : after ≡ received w (readCapsule (drop at s))
+  pub requested : list ≡ requested l (readCapsule (drop at s))
+
 -- ---- the value v of a capsule that its frame f found at a place
 
 -- the list of a value decides: it is stored, and the capsule was read

@@ -7,7 +7,7 @@ use lists::AddressList;
 use lists::RouteList;
 use state::STATE_WORDS;
 ghost use mathlib.Core.Path.{_≡_};
-ghost use Rattle.exchange.specs.Reading.{receiveAddresses, receiveRoutes, ReadsCapsule, TakesAssign, TakesRoutes, TakesRequest, TakesValue};
+ghost use Rattle.exchange.specs.Reading.{receiveAddresses, receiveRoutes, ReadsCapsule, TakesCapsule, TakesAssign, TakesRoutes, TakesRequest, TakesValue};
 
 // The capsule at a place of the buffer. The list of an ADDRESS_ASSIGN or a ROUTE_ADVERTISEMENT becomes the received one, and the entries of an
 // ADDRESS_REQUEST are handed back; all other capsules touch nothing.
@@ -22,6 +22,18 @@ pub fn read_capsule(
     if !state::state_sound(state) {
         return capsule::refused(Refusal::BrokenState, at);
     }
+    take_capsule(state, bytes, at, requested)
+}
+
+// The same where the state was judged: it is not looked at.
+pub fn take_capsule(
+    state: &mut [u64; STATE_WORDS],
+    bytes: &[u8],
+    at: usize,
+    requested: &mut [u64; ADDRESS_WORDS],
+) -> CapsuleRead
+    ensures { λ r. ⌜ TakesCapsule (now (state .entry)) (now (bytes .entry)) at (now (requested .entry)) r (now (state .exit)) (now (requested .exit)) ⌝ }
+{
     let found = capsule::frame(bytes, at);
     let verdict = found.verdict;
     match verdict {
