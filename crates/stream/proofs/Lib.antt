@@ -1,0 +1,17 @@
+pub mod SkipLaws
+pub mod SizeLaws
+pub mod WholeLaws
+pub mod StepLaws
+pub mod StoreLaws
+pub mod TestLaws
+pub mod FeedLaws
+pub mod RunLaws
+pub mod BufferLaws
+pub mod CallLaws
+pub mod EndLaws
+pub mod WordLaws
+pub mod CaseLaws
+pub mod CodeLaws
+pub mod StoreCases
+pub mod FeedCases
+pub mod HandCases

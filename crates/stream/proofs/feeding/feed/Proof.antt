@@ -1,0 +1,98 @@
+-- The table of tests, then a refusal that is remembered, a capsule that is skipped, or one whose bytes are collected. Assumes nothing.
+use native.Mathlib.Omega.{arith}
+use mathlib.Core.Path.{refl, sym, _∙_}
+use Rattle.lists.proofs.Calls.{called-true, called-false}
+use Rattle.stream.proofs.TestLaws.{verdict-room, verdict-state, verdict-store, verdict-go}
+use Rattle.stream.proofs.FeedCases as Feed
+use borrow.Author.Needs.{needs}
+use Rattle.stream.proofs.feeding.feed.Statement.{statement}
+use Rattle.stream.proofs.feeding.feed.Tie as tie
+
+stopped-requires : tie.Need-stopped-requires
+stopped-requires c κs = search needs
+
+returns : tie.Need-returns
+returns c = Feed.feeds-stop _ _ _ _ _ (verdict-room _ _ _ (c .before .if1 .taken)) (c .stopped .ensures)
+
+state-sound-requires : tie.Need-state-sound-requires
+state-sound-requires c κs = search needs
+
+stopped-requires-2 : tie.Need-stopped-requires-2
+stopped-requires-2 c κs = search needs
+
+returns-2 : tie.Need-returns-2
+returns-2 c = Feed.feeds-stop _ _ _ _ _ (verdict-state _ _ _ (c .before .before .before .before .before .if1 .left) (called-false (c .before .before .state-sound .ensures) (c .before .if2 .taken))) (c .stopped2 .ensures)
+
+kept-head-requires : tie.Need-kept-head-requires
+kept-head-requires c κs = search needs
+
+store-sound-requires : tie.Need-store-sound-requires
+store-sound-requires c κs = search needs
+
+stopped-requires-3 : tie.Need-stopped-requires-3
+stopped-requires-3 c κs = search needs
+
+returns-3 : tie.Need-returns-3
+returns-3 c = Feed.feeds-stop _ _ _ _ _ (verdict-store _ _ _ (c .before .before .before .before .before .before .before .before .before .before .before .before .before .before .before .before .if1 .left) (called-true (c .before .before .before .before .before .before .before .before .before .before .before .before .before .state-sound .ensures) (c .before .before .before .before .before .before .before .before .before .before .before .before .if2 .left)) (called-false (c .before .before .store-sound .ensures .answer) (c .before .if3 .taken))) (c .stopped3 .ensures)
+
+element-copy-out-remembered : tie.Need-element-copy-out-remembered
+element-copy-out-remembered c = search needs
+
+remembered-requires : tie.Need-remembered-requires
+remembered-requires c κs = search needs
+
+enum-told : tie.Need-enum-told
+enum-told c = search needs
+
+element-copy-out-skip : tie.Need-element-copy-out-skip
+element-copy-out-skip c = search needs
+
+pass-over-requires : tie.Need-pass-over-requires
+pass-over-requires c κs = (search needs, Feed.live-word (c .before .before .before .before .before .before .before .before .before .before .before .before .before .before .before .before .before .before .before .before .before .before .before .before .before .args .state .now) (c .before .before .before .before .before .before .before .before .before .before .before .before .before .before .before .before .before .before .before .before .before .before .before .before .before .args .kept .now) (called-true (c .before .before .before .before .before .before .before .before .store-sound .ensures .answer) (c .before .before .before .before .before .before .before .if3 .left)) (sym (c .before .before .before .before .before .remembered .ensures) ∙ c .before .before .before .enum-told .given .1))
+
+returns-4 : tie.Need-returns-4
+returns-4 c = Feed.feeds-skip _ _ _ _ _ (verdict-go _ _ _ (c .before .before .before .before .before .before .before .before .before .before .before .before .before .before .before .before .before .before .before .before .before .before .before .if1 .left) (called-true (c .before .before .before .before .before .before .before .before .before .before .before .before .before .before .before .before .before .before .before .before .state-sound .ensures) (c .before .before .before .before .before .before .before .before .before .before .before .before .before .before .before .before .before .before .before .if2 .left)) (called-true (c .before .before .before .before .before .before .before .before .before .store-sound .ensures .answer) (c .before .before .before .before .before .before .before .before .if3 .left))) (sym (c .before .before .before .before .before .before .remembered .ensures) ∙ c .before .before .before .before .enum-told .given .1) (c .before .before .if4 .taken) (c .pass-over .ensures)
+
+feed-open-requires : tie.Need-feed-open-requires
+feed-open-requires c κs = (Feed.ready _ _ (search needs) (search needs) (called-true (c .before .before .before .before .before .before .before .before .before .before .before .store-sound .ensures .answer) (c .before .before .before .before .before .before .before .before .before .before .if3 .left)) (c .before .before .before .before .before .before .before .before .before .before .before .store-sound .ensures .within (called-true refl (c .before .before .before .before .before .before .before .before .before .before .if3 .left))) (sym (c .before .before .before .before .before .before .before .before .remembered .ensures) ∙ c .before .before .before .before .before .before .enum-told .given .1) (c .before .before .before .before .if4 .left), omega (arith, c .before .before .before .before .before .before .before .before .before .before .before .before .before .before .before .before .before .before .before .before .before .before .before .before .before .if1 .left), c .before .before .before .before .before .before .before .before .before .before .before .before .before .before .before .before .kept-head .ensures (c .before .before .before .before .before .before .before .before .before .before .before .store-sound .ensures .within (called-true refl (c .before .before .before .before .before .before .before .before .before .before .if3 .left))))
+
+enum-known-verdict : tie.Need-enum-known-verdict
+enum-known-verdict c = search needs
+
+stopped-requires-4 : tie.Need-stopped-requires-4
+stopped-requires-4 c κs = search needs
+
+same-length : tie.Need-same-length
+same-length c = search needs
+
+returns-5 : tie.Need-returns-5
+returns-5 c = Feed.feeds-goes _ _ _ _ _ (verdict-go _ _ _ (c .before .before .before .before .before .before .before .before .before .before .before .before .before .before .before .before .before .before .before .before .before .before .before .before .before .before .before .before .if1 .left) (called-true (c .before .before .before .before .before .before .before .before .before .before .before .before .before .before .before .before .before .before .before .before .before .before .before .before .before .state-sound .ensures) (c .before .before .before .before .before .before .before .before .before .before .before .before .before .before .before .before .before .before .before .before .before .before .before .before .if2 .left)) (called-true (c .before .before .before .before .before .before .before .before .before .before .before .before .before .before .store-sound .ensures .answer) (c .before .before .before .before .before .before .before .before .before .before .before .before .before .if3 .left))) (c .before .before .feed-open .ensures)
+
+returns-6 : tie.Need-returns-6
+returns-6 c = let s = called-true (c .before .before .before .before .before .before .before .store-sound .ensures .answer) (c .before .before .before .before .before .before .if3 .left) in let p = c .before .before .before .before .before .before .before .store-sound .ensures .within (called-true refl (c .before .before .before .before .before .before .if3 .left)) in Feed.feeds-repeat _ _ _ _ _ (verdict-go _ _ _ (c .before .before .before .before .before .before .before .before .before .before .before .before .before .before .before .before .before .before .before .before .before .if1 .left) (called-true (c .before .before .before .before .before .before .before .before .before .before .before .before .before .before .before .before .before .before .state-sound .ensures) (c .before .before .before .before .before .before .before .before .before .before .before .before .before .before .before .before .before .if2 .left)) s) (search needs) s (omega (arith, p)) (sym (c .before .before .before .before .remembered .ensures) ∙ c .before .before .verdict .given .1) (c .stopped4 .ensures)
+
+pub feed-spec : {M : Type 1} → statement M
+feed-spec =
+    tie.close
+    (tie.spec
+    stopped-requires
+    returns
+    state-sound-requires
+    stopped-requires-2
+    returns-2
+    kept-head-requires
+    store-sound-requires
+    stopped-requires-3
+    returns-3
+    element-copy-out-remembered
+    remembered-requires
+    enum-told
+    element-copy-out-skip
+    pass-over-requires
+    returns-4
+    feed-open-requires
+    enum-known-verdict
+    stopped-requires-4
+    same-length
+    returns-5
+    returns-6)
