@@ -1,5 +1,5 @@
 /*
- * A host in C: two ends of a tunnel, one packet sent short and received. Every call of the header is made.
+ * A host in C: two ends of a tunnel, one packet sent short and received, and a stream in pieces. Every call of the header is made.
  *
  *   rt staticlib tunnel_c
  *   cc -std=c99 -Wall -Wextra -Iinclude examples/embed.c target/staticlib/libtunnel_c.a -o target/embed-host && target/embed-host
@@ -16,6 +16,9 @@ static const uint8_t PLAN[] = {0x56, 0x41, 0x4E, 0x00, 0x01, 0x01, 0x02, 0x01, 0
 static const uint8_t PACKET[] = {0x45, 0x00, 0x00, 0x1C, 0x00, 0x00, 0x00, 0x00, 0x40, 0x11, 0x8E, 0x98, 0xC0, 0x00,
                                  0x02, 0x03, 0xC6, 0x33, 0x64, 0x02, 0x03, 0xE8, 0x07, 0xD0, 0x00, 0x08, 0x07, 0xED};
 
+/* The type and length of a DATAGRAM of 4,097 bytes */
+static const uint8_t TOO_LONG[] = {0x00, 0x50, 0x01};
+
 static void show(const char *what, whapirohi_answer a, const uint8_t *bytes)
 {
     printf("%s: %llu, %llu bytes", what, (unsigned long long)a.number, (unsigned long long)a.length);
@@ -25,13 +28,32 @@ static void show(const char *what, whapirohi_answer a, const uint8_t *bytes)
     printf("\n");
 }
 
+/* A piece of a stream, capsule by capsule: what a call leaves is handed in again. */
+static void feed(whapirohi_state *state, const uint8_t *bytes, size_t length)
+{
+    static uint8_t kept[WHAPIROHI_KEPT_SIZE], value[WHAPIROHI_FEED_ROOM];
+    static uint64_t requested[WHAPIROHI_ADDRESS_WORDS];
+    whapirohi_piece p;
+
+    do {
+        p = whapirohi_feed(state, kept, bytes, length, value, sizeof value, requested);
+        printf("piece of %zu: %llu, handed %llu, kind %llu, taken %llu\n", length, (unsigned long long)p.number, (unsigned long long)p.handed,
+               (unsigned long long)p.kind, (unsigned long long)p.taken);
+        if (p.length > 0) {
+            show("value", (whapirohi_answer){p.number, p.length}, value);
+        }
+        bytes += p.taken;
+        length -= p.taken;
+    } while (p.handed == 1);
+}
+
 int main(void)
 {
-    static whapirohi_state van, clinic;
+    static whapirohi_state van, clinic, cut;
     static uint64_t addresses[WHAPIROHI_ADDRESS_WORDS], routes[WHAPIROHI_ROUTE_WORDS], requested[WHAPIROHI_ADDRESS_WORDS];
     static uint8_t stream[2 * WHAPIROHI_CAPSULE_ROOM], datagram[WHAPIROHI_SEND_ROOM], packet[WHAPIROHI_RECEIVE_ROOM];
 
-    if (whapirohi_state_size() != sizeof(whapirohi_state)) {
+    if (whapirohi_state_size() != sizeof(whapirohi_state) || whapirohi_kept_size() != WHAPIROHI_KEPT_SIZE) {
         printf("the header is not that of the library\n");
         return 1;
     }
@@ -64,6 +86,16 @@ int main(void)
         at = c.next;
     }
 
+    /* Another van gets the same stream in pieces of 8 bytes, and holds the same lists. */
+    whapirohi_start(&cut);
+    for (at = 0; at < size; at += 8) {
+        feed(&cut, stream + at, size - at < 8 ? size - at : 8);
+    }
+    printf("lists: %s\n", memcmp(cut.received_addresses, van.received_addresses, sizeof van.received_addresses) == 0 &&
+                                  memcmp(cut.received_routes, van.received_routes, sizeof van.received_routes) == 0
+                              ? "the same"
+                              : "others");
+
     whapirohi_answer sent = whapirohi_send(&van, PACKET, sizeof PACKET, datagram, sizeof datagram);
     show("sent", sent, datagram);
     show("received", whapirohi_receive(&clinic, datagram, sent.length, packet, sizeof packet), packet);
@@ -78,8 +110,15 @@ int main(void)
     printf("requested: %llu, kind %llu, %llu entry, ID %llu\n", (unsigned long long)c.number, (unsigned long long)c.kind,
            (unsigned long long)requested[0], (unsigned long long)requested[1]);
 
-    /* A datagram on the stream, the file of the plan, and a number by itself. */
-    show("datagram", whapirohi_write_datagram(datagram, sent.length, stream, sizeof stream), stream);
+    /* A datagram on the stream, cut in its value; then a length that is refused, and is still refused when the next capsule comes. */
+    whapirohi_answer framed = whapirohi_write_datagram(datagram, sent.length, stream, sizeof stream);
+    show("datagram", framed, stream);
+    feed(&cut, stream, 10);
+    feed(&cut, stream + 10, framed.length - 10);
+    feed(&cut, TOO_LONG, sizeof TOO_LONG);
+    feed(&cut, stream, framed.length);
+
+    /* The file of the plan, and a number by itself. */
     show("plan", whapirohi_write_plan(&van, stream, sizeof stream), stream);
     whapirohi_answer number = whapirohi_write_number(15293, stream, sizeof stream);
     show("number", number, stream);

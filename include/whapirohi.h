@@ -1,8 +1,10 @@
 /*
  * The van tunnel box for C and Rust hosts.
  *
- * The host owns the state and lends it to each call; nothing is kept between calls and nothing is allocated. Every call answers, whatever
- * bytes it is handed: 0, or the number of the refusal. A refusal alters nothing that was lent.
+ * The host owns the state, and the kept bytes of a stream that comes in pieces, and lends them to each call; the library keeps nothing between
+ * calls and allocates nothing. Every call answers, whatever bytes it is handed: 0, or the number of the refusal. A refusal alters nothing that
+ * was lent, but for whapirohi_feed: its number 1 means wait and keeps the bytes given, and the first of its refusals 2 to 7 is remembered in
+ * the state.
  *
  * What the caller owes, as for any C function over pointers: each pointer is not null and points to as many bytes or words as its parameter
  * says (a pointer with a length of 0 is not null either); memory that a call writes to overlaps with nothing else that is lent to it.
@@ -39,13 +41,17 @@ enum {
 /* The most bytes of a packet and of a capsule's value, and the room for a capsule's type and length. */
 enum { WHAPIROHI_MAX_PACKET = 1500, WHAPIROHI_MAX_VALUE = 4096, WHAPIROHI_HEADER_ROOM = 8 };
 
+/* The bytes of an unfinished capsule that whapirohi_feed keeps between calls: a value, and type and length in their longest forms. */
+enum { WHAPIROHI_KEPT_SIZE = WHAPIROHI_MAX_VALUE + 16 };
+
 /* The least lent outputs. */
 enum {
     WHAPIROHI_NUMBER_ROOM = 8,
     WHAPIROHI_PLAN_ROOM = 1400,
     WHAPIROHI_RECEIVE_ROOM = WHAPIROHI_MAX_PACKET,
     WHAPIROHI_SEND_ROOM = WHAPIROHI_NUMBER_ROOM + WHAPIROHI_MAX_PACKET,
-    WHAPIROHI_CAPSULE_ROOM = WHAPIROHI_MAX_VALUE + WHAPIROHI_HEADER_ROOM
+    WHAPIROHI_CAPSULE_ROOM = WHAPIROHI_MAX_VALUE + WHAPIROHI_HEADER_ROOM,
+    WHAPIROHI_FEED_ROOM = WHAPIROHI_MAX_VALUE
 };
 
 /* The state is one array of words in these parts, in this order.
@@ -53,13 +59,20 @@ enum {
  * field, start, WHAPIROHI_MAX_SEGMENTS segments of two words (offset, length), and WHAPIROHI_STATIC_LIMIT words with a static byte each: that of
  * position p of a packet is word p.
  * A third word that is neither breaks the plan's rules. Bits above a static byte, templates and segments past their counts, bytes outside all segments, and
- * field and start without a checksum mean nothing; they are 0 in a plan that the box reads. */
+ * field and start without a checksum mean nothing; they are 0 in a plan that the box reads.
+ * The store of a stream, which whapirohi_feed alone looks at: kept_count bytes at the front of the kept bytes are the front of a capsule that is not
+ * all there (type or length cut; or a type from 0 to 3 with a length up to WHAPIROHI_MAX_VALUE, and its value cut); to_skip is how many bytes of
+ * a skipped value are still to come, below 2^62, and where it is not 0 kept_count is 0; remembered is the refusal that every call repeats, 2
+ * to 7, or 0. Kept bytes past the count mean nothing. */
 typedef struct whapirohi_state {
     uint64_t received_addresses[WHAPIROHI_ADDRESS_WORDS];
     uint64_t received_routes[WHAPIROHI_ROUTE_WORDS];
     uint64_t given_addresses[WHAPIROHI_ADDRESS_WORDS];
     uint64_t given_routes[WHAPIROHI_ROUTE_WORDS];
     uint64_t plan[WHAPIROHI_PLAN_WORDS];
+    uint64_t kept_count;
+    uint64_t to_skip;
+    uint64_t remembered;
 } whapirohi_state;
 
 /* number: 0, or the refusal. length: how many bytes were written to the front of the output; 0 with a refusal. */
@@ -86,11 +99,26 @@ typedef struct whapirohi_capsule {
     uint64_t next;
 } whapirohi_capsule;
 
-/* ---- the calls over the state. A call that looks at the lists looks at all of the state first: 9 where any part of it breaks its rules. */
+/* What the bytes of a stream came to.
+ * number 0, handed 1: one capsule came to its end. kind as in whapirohi_capsule; the value of a DATAGRAM stands in the first length bytes of
+ * the output, and length is 0 for every other kind.
+ * number 0, handed 0: no capsule is open and no byte was given. number 1: a capsule is open and all bytes were taken; wait for more.
+ * Any other number: a refusal. Without a capsule handed, kind and length are 0.
+ * taken: how many of the bytes given were taken, none past the end of a capsule, and none with a refusal. */
+typedef struct whapirohi_piece {
+    uint64_t number;
+    uint64_t handed;
+    uint64_t kind;
+    uint64_t length;
+    uint64_t taken;
+} whapirohi_piece;
+
+/* ---- the calls over the state. A call that looks at the lists looks at all lists and the plan first: 9 where any part of them breaks its rules. */
 
 uint64_t whapirohi_state_size(void); /* sizeof (whapirohi_state) in bytes */
+uint64_t whapirohi_kept_size(void);  /* WHAPIROHI_KEPT_SIZE */
 
-/* No grants, no templates: every word 0. */
+/* No grants, no templates, no stream begun: every word 0. The kept bytes may then hold anything. */
 void whapirohi_start(whapirohi_state *state);
 
 /* 20 to 25, or 0: then the plan is replaced. The lists, and what the plan was, are not looked at. */
@@ -102,6 +130,13 @@ whapirohi_answer whapirohi_write_plan(const whapirohi_state *state, uint8_t *out
 /* One capsule at a place: 9, 1 to 7. Type 1 or 3 replaces the received list; type 2 writes its entries to requested, which has the words of a
  * list of addresses. */
 whapirohi_capsule whapirohi_read_capsule(whapirohi_state *state, const uint8_t *bytes, size_t length, size_t at, uint64_t *requested);
+
+/* The next bytes of a stream that is cut anywhere, as far as one capsule goes; what is not taken is handed in again, with what came since.
+ * kept has WHAPIROHI_KEPT_SIZE bytes, out at least WHAPIROHI_FEED_ROOM; kept is lent to each call as the last one left it.
+ * 16; 9 where lists, plan or store break their rules; the refusal that is remembered; 2 as soon as type and length are there; 3 to 7 once the
+ * value is. 2 to 7 are remembered and repeated until whapirohi_start, 9 and 16 are not. Lists and requested as by whapirohi_read_capsule. */
+whapirohi_piece whapirohi_feed(whapirohi_state *state, uint8_t *kept, const uint8_t *bytes, size_t length, uint8_t *out, size_t room,
+                               uint64_t *requested);
 
 /* 16, 9, 3, 7; 16, 9, 4, 5, 7: on success the list becomes the given one. */
 whapirohi_answer whapirohi_write_assign(whapirohi_state *state, const uint64_t *list, uint8_t *out, size_t room);

@@ -6,7 +6,7 @@ use lib.Dec.{eqb}
 use lib.ListN.{length}
 use Rattle.answer.specs.declared.Answer.{Answer}
 use Rattle.answer.specs.Choice.{pick}
-use Rattle.answer.specs.Number.{answerNumber, answerLength, verdictNumber}
+use Rattle.answer.specs.Number.{numberOf, answerNumber, answerLength, verdictNumber}
 use Rattle.answer.specs.Verdict.{Writes}
 use Rattle.varint.specs.Numbers.{encode, writeVerdict}
 use Rattle.varint.specs.declared.NumberRead.{NumberRead}
@@ -15,9 +15,14 @@ use Rattle.capsule.specs.declared.CapsuleRead.{CapsuleRead}
 use Rattle.state.specs.State.{stateWords}
 use Rattle.exchange.specs.Reading.{ReadsCapsule}
 use Rattle.exchange.specs.Writing.{Assigns, Advertises}
+use Rattle.stream.specs.declared.feeding.Call.{Call}
+use Rattle.stream.specs.declared.feeding.Call.the-variants.{Handed, Between, Wait, Stopped}
+use Rattle.stream.specs.declared.feeding.Piece.{Piece}
+use Rattle.stream.specs.Feeding.{Feeds}
 use Rattle.tunnel_c.specs.declared.PlainAnswer.{PlainAnswer}
 use Rattle.tunnel_c.specs.declared.PlainNumber.{PlainNumber}
 use Rattle.tunnel_c.specs.declared.capsules.PlainCapsule.{PlainCapsule}
+use Rattle.tunnel_c.specs.declared.pieces.PlainPiece.{PlainPiece}
 
 -- the bytes of the state, in words of 8
 abbrev pub stateBytes : ℕ
@@ -41,6 +46,19 @@ plainCapsule c =
       next = c .next;
     }
 
+-- a capsule that was handed out; or none, and the number
+abbrev pub notHanded : ℕ → ℕ → PlainPiece
+notHanded number taken = record { number = number; handed = 0; kind = 0; length = 0; taken = taken }
+
+abbrev pub plainCall : ℕ → Call → PlainPiece
+plainCall taken (Handed kind size) = record { number = 0; handed = 1; kind = kind; length = size; taken = taken }
+plainCall taken Between = notHanded 0 taken
+plainCall taken Wait = notHanded 1 taken
+plainCall taken (Stopped r) = notHanded (numberOf r) taken
+
+abbrev pub plainPiece : Piece → PlainPiece
+plainPiece p = plainCall (p .taken) (p .call)
+
 -- what crosses is the plain form of an answer of which P is promised
 pub record Plainly {A B : Type 0} (plain : A → B) (P : A → Type 0) (r : B) : Type 0 where
   pub answer : A
@@ -59,3 +77,6 @@ AssignsPlainly w list before r after out = Plainly plainAnswer (λ a. Assigns w 
 
 abbrev pub AdvertisesPlainly : List ℕ → List ℕ → List ℕ → PlainAnswer → List ℕ → List ℕ → Type 0
 AdvertisesPlainly w list before r after out = Plainly plainAnswer (λ a. Advertises w list before a after out) r
+
+abbrev pub FeedsPlainly : List ℕ → List ℕ → List ℕ → List ℕ → List ℕ → PlainPiece → List ℕ → List ℕ → List ℕ → List ℕ → Type 0
+FeedsPlainly w held t before l r later holds after list = Plainly plainPiece (λ p. Feeds w held t before l p later holds after list) r

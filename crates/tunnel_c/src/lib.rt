@@ -3,6 +3,7 @@
 // with the answer's enum as the number that it gives back and its values beside it.
 mod capsules; // capsules.rt: capsules read and written against the lent state
 mod packets; // packets.rt: packets sent and received
+mod pieces; // pieces.rt: the stream in pieces
 mod plans; // plans.rt: the plan loaded and written
 
 use answer::Answer;

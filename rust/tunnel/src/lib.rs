@@ -1,13 +1,15 @@
 //! The proved van tunnel box for Rust hosts.
 //!
-//! The host owns a [`State`] and lends it to each call; nothing is kept between calls and nothing is allocated. Every call answers, whatever
-//! it is handed: number 0, or the number of the refusal, which alters nothing. The C header `include/whapirohi.h` says the same for C hosts.
+//! The host owns a [`State`], and the [`KeptBytes`] of a stream that comes in pieces, and lends them to each call; the library keeps nothing
+//! between calls and allocates nothing. Every call answers, whatever it is handed: number 0, or the number of the refusal, which alters
+//! nothing; only `State::feed` keeps bytes with number 1 and remembers the first of 2 to 7. The C header `include/whapirohi.h` says the same
+//! for C hosts.
 #![deny(unsafe_code)]
 
 #[cfg(feature = "link")]
 mod library;
 #[cfg(feature = "link")]
-pub use library::{read_number, state_size, write_datagram, write_number, write_request};
+pub use library::{kept_size, read_number, state_size, write_datagram, write_number, write_request};
 
 /// The limits of lists and plans.
 pub const MAX_ADDRESSES: usize = 16;
@@ -29,8 +31,12 @@ pub const PLAN_WORDS: usize = 1 + MAX_TEMPLATES * TEMPLATE_WORDS;
 pub const MAX_PACKET: usize = 1500;
 pub const MAX_VALUE: usize = 4096;
 
-/// The room for a capsule's type and length.
+/// The room for a capsule's type and length, as they are written and at their longest.
 pub const HEADER_ROOM: usize = 8;
+pub const HEADER_LIMIT: usize = 16;
+
+/// The bytes of an unfinished capsule that are kept between calls.
+pub const KEPT_SIZE: usize = MAX_VALUE + HEADER_LIMIT;
 
 /// The least lent outputs.
 pub const NUMBER_ROOM: usize = 8;
@@ -38,12 +44,15 @@ pub const PLAN_ROOM: usize = 1400;
 pub const RECEIVE_ROOM: usize = MAX_PACKET;
 pub const SEND_ROOM: usize = NUMBER_ROOM + MAX_PACKET;
 pub const CAPSULE_ROOM: usize = MAX_VALUE + HEADER_ROOM;
+pub const FEED_ROOM: usize = MAX_VALUE;
 
 pub type AddressWords = [u64; ADDRESS_WORDS];
 pub type RouteWords = [u64; ROUTE_WORDS];
 pub type PlanWords = [u64; PLAN_WORDS];
+pub type KeptBytes = [u8; KEPT_SIZE];
 
-/// The lists and the plan in force, in words: the header's `whapirohi_state`.
+/// The lists, the plan in force and the store of a stream, in words: the header's `whapirohi_state`. The store: how many bytes at the front of
+/// the [`KeptBytes`] are kept, how many of a skipped value are still to come, and the refusal that is repeated, or 0.
 #[derive(Clone, Debug, PartialEq, Eq)]
 #[repr(C)]
 pub struct State {
@@ -52,9 +61,12 @@ pub struct State {
     pub given_addresses: AddressWords,
     pub given_routes: RouteWords,
     pub plan: PlanWords,
+    pub kept_count: u64,
+    pub to_skip: u64,
+    pub remembered: u64,
 }
 
-const _: () = assert!(size_of::<State>() == 8 * (2 * ADDRESS_WORDS + 2 * ROUTE_WORDS + PLAN_WORDS));
+const _: () = assert!(size_of::<State>() == 8 * (2 * ADDRESS_WORDS + 2 * ROUTE_WORDS + PLAN_WORDS + 3));
 
 /// The answer of a call that writes: the number, and how many bytes stand at the front of the output (0 with a refusal).
 #[derive(Clone, Copy, Debug, PartialEq, Eq)]
@@ -83,6 +95,19 @@ pub struct Capsule {
     pub start: u64,
     pub length: u64,
     pub next: u64,
+}
+
+/// What the bytes of a stream came to. `handed` 1: a capsule came to its end; its `kind` as in [`Capsule`], and the `length` of a DATAGRAM's
+/// value, which stands at the front of the output. Number 0 and `handed` 0: no capsule is open and no byte was given. Number 1: a capsule is
+/// open, wait. `taken`: how many of the bytes were taken, 0 with any other number; the rest is handed in again.
+#[derive(Clone, Copy, Debug, PartialEq, Eq)]
+#[repr(C)]
+pub struct Piece {
+    pub number: u64,
+    pub handed: u64,
+    pub kind: u64,
+    pub length: u64,
+    pub taken: u64,
 }
 
 /// The number of a refusal.

@@ -4,10 +4,11 @@
 //! pointer, which is not null) and point to as many bytes or words as is said with them, and what is lent `&mut` overlaps with nothing.
 #![allow(unsafe_code)]
 
-use crate::{AddressWords, Answer, Capsule, Number, RouteWords, State};
+use crate::{AddressWords, Answer, Capsule, KeptBytes, Number, Piece, RouteWords, State};
 
 extern "C" {
     fn whapirohi_state_size() -> u64;
+    fn whapirohi_kept_size() -> u64;
     fn whapirohi_start(state: *mut State);
     fn whapirohi_load_plan(state: *mut State, file: *const u8, length: usize) -> u64;
     fn whapirohi_write_plan(state: *const State, out: *mut u8, room: usize) -> Answer;
@@ -18,6 +19,15 @@ extern "C" {
         at: usize,
         requested: *mut u64,
     ) -> Capsule;
+    fn whapirohi_feed(
+        state: *mut State,
+        kept: *mut u8,
+        bytes: *const u8,
+        length: usize,
+        out: *mut u8,
+        room: usize,
+        requested: *mut u64,
+    ) -> Piece;
     fn whapirohi_write_assign(state: *mut State, list: *const u64, out: *mut u8, room: usize) -> Answer;
     fn whapirohi_write_routes(state: *mut State, list: *const u64, out: *mut u8, room: usize) -> Answer;
     fn whapirohi_send(state: *const State, packet: *const u8, length: usize, out: *mut u8, room: usize) -> Answer;
@@ -32,6 +42,12 @@ extern "C" {
 pub fn state_size() -> u64 {
     // SAFETY: takes no pointer.
     unsafe { whapirohi_state_size() }
+}
+
+/// Bytes that are kept of an unfinished capsule, as the library knows them.
+pub fn kept_size() -> u64 {
+    // SAFETY: takes no pointer.
+    unsafe { whapirohi_kept_size() }
 }
 
 /// A number by itself: 1 where it is cut.
@@ -59,7 +75,7 @@ pub fn write_request(list: &AddressWords, out: &mut [u8]) -> Answer {
 }
 
 impl State {
-    /// Empty lists and a plan of no templates.
+    /// Empty lists, a plan of no templates and an empty store.
     pub fn new() -> State {
         let mut state = State {
             received_addresses: [0; crate::ADDRESS_WORDS],
@@ -67,12 +83,15 @@ impl State {
             given_addresses: [0; crate::ADDRESS_WORDS],
             given_routes: [0; crate::ROUTE_WORDS],
             plan: [0; crate::PLAN_WORDS],
+            kept_count: 0,
+            to_skip: 0,
+            remembered: 0,
         };
         state.start();
         state
     }
 
-    /// Empties the lists and the plan.
+    /// Empties the lists, the plan and the store.
     pub fn start(&mut self) {
         // SAFETY: the state is lent whole, `&mut`.
         unsafe { whapirohi_start(self) }
@@ -94,6 +113,24 @@ impl State {
     pub fn read_capsule(&mut self, bytes: &[u8], at: usize, requested: &mut AddressWords) -> Capsule {
         // SAFETY: the state is lent whole, `&mut`; `bytes` is lent with its length, and `requested` has the words of a list.
         unsafe { whapirohi_read_capsule(self, bytes.as_ptr(), bytes.len(), at, requested.as_mut_ptr()) }
+    }
+
+    /// The next bytes of a stream, as far as one capsule goes: 16, 9, a refusal that is remembered, then 1 to 7. A list and `requested` as by
+    /// `read_capsule`; the value of a DATAGRAM goes to the front of `out`. `kept` is lent to each call as the last one left it.
+    pub fn feed(&mut self, kept: &mut KeptBytes, bytes: &[u8], out: &mut [u8], requested: &mut AddressWords) -> Piece {
+        // SAFETY: the state is lent whole, `&mut`, and `kept` has its bytes; both slices are lent with their lengths, and `requested` has the
+        // words of a list.
+        unsafe {
+            whapirohi_feed(
+                self,
+                kept.as_mut_ptr(),
+                bytes.as_ptr(),
+                bytes.len(),
+                out.as_mut_ptr(),
+                out.len(),
+                requested.as_mut_ptr(),
+            )
+        }
     }
 
     /// An ADDRESS_ASSIGN capsule: 16, 9, then 3, 7. On success the list becomes the given one.

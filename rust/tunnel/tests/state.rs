@@ -1,12 +1,34 @@
 //! The state that Rust lends is the state that the library expects, and the drivers' packet goes there and back.
 #![cfg(feature = "link")]
 
-use whapirohi_tunnel::{state_size, State, ADDRESS_WORDS, CAPSULE_ROOM, RECEIVE_ROOM, ROUTE_WORDS, SEND_ROOM};
+use whapirohi_tunnel::{kept_size, state_size, Piece, State};
+use whapirohi_tunnel::{ADDRESS_WORDS, CAPSULE_ROOM, FEED_ROOM, KEPT_SIZE, RECEIVE_ROOM, ROUTE_WORDS, SEND_ROOM};
 
 #[test]
 fn size_of_the_state() {
     assert_eq!(state_size(), size_of::<State>() as u64);
-    assert_eq!(state_size(), 15720);
+    assert_eq!(state_size(), 15744);
+    assert_eq!(kept_size(), KEPT_SIZE as u64);
+    assert_eq!(kept_size(), 4112);
+}
+
+#[test]
+fn a_stream_in_pieces() {
+    let mut state = State::new();
+    let (mut kept, mut out, mut requested) = ([0; KEPT_SIZE], [0; FEED_ROOM], [0; ADDRESS_WORDS]);
+    let mut feed = |bytes: &[u8]| state.feed(&mut kept, bytes, &mut out, &mut requested);
+    let wait = Piece { number: 1, handed: 0, kind: 0, length: 0, taken: 0 };
+    assert_eq!(feed(b"\x00\x03\xAA"), Piece { taken: 3, ..wait });
+    let ended = Piece { number: 0, handed: 1, kind: 0, length: 3, taken: 2 };
+    assert_eq!(feed(b"\xBB\xCC\x01\x07\x00\x04\xC0"), ended);
+    assert_eq!(feed(b"\x01\x07\x00\x04\xC0"), Piece { taken: 5, ..wait });
+    assert_eq!(feed(b"\x00\x02\x03\x20"), Piece { kind: 1, length: 0, taken: 4, ..ended });
+    assert_eq!(feed(b""), Piece { number: 0, ..wait });
+    assert_eq!(feed(b"\x00\x50\x01"), Piece { number: 2, ..wait });
+    assert_eq!(feed(b"\x01\x00"), Piece { number: 2, ..wait });
+    assert_eq!(out[..4], [0xAA, 0xBB, 0xCC, 0]);
+    assert_eq!(state.received_addresses[..5], [1, 0, 4 + 256 * 32, 0, 0xC000_0203]);
+    assert_eq!((state.kept_count, state.to_skip, state.remembered), (0, 0, 2));
 }
 
 #[test]
