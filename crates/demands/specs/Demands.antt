@@ -1,12 +1,14 @@
 -- What the box promises, in the paper's words and order. Each is a statement about the very definitions that the contracts cite:
 -- `sendAnswer`, `sendOutput`, `receiveAnswer` and `receiveOutput` are what those of `tunnel::send` and `tunnel::receive` say of the state that the
 -- lent words mean (`stateIn`). "Room" is an output that is large enough and nothing handed in that breaks its own rules.
-use Prim.Native.Nat.{ℕ, _-_, _%_, _≤_}
+use Prim.Native.Nat.{ℕ, _-_, _%_, _<_, _≤_}
 use mathlib.Core.Path.{_≡_, refl}
 use mathlib.Core.Bool.{true, false}
-use mathlib.Core.List.{List, [], _++_}
+use mathlib.Core.Logic.{_⊎_}
+use mathlib.Core.List.{List, [], _++_, flatten}
 use lib.ListN.{length, take, replicate}
 use Rattle.answer.specs.declared.Refusal.{Refusal}
+use Rattle.answer.specs.declared.Refusal.the-variants.{BrokenState, NoRoom}
 use Rattle.answer.specs.declared.Answer.{Answer}
 use Rattle.answer.specs.declared.Answer.the-variants.{Done, Refused}
 use Rattle.answer.specs.declared.Verdict.{Verdict}
@@ -23,7 +25,7 @@ use Rattle.lists.specs.declared.AddressEntry.{AddressEntry}
 use Rattle.lists.specs.declared.RouteRange.{RouteRange}
 use Rattle.lists.specs.Words.{addressWords, routeWords, entriesOf, rangesOf}
 use Rattle.capsule.specs.declared.CapsuleRead.{CapsuleRead}
-use Rattle.capsule.specs.Capsules.{Capsule, datagram, assign, request, advertise, unknown, capsule, readCapsule, capsuleBytes}
+use Rattle.capsule.specs.Capsules.{maxValue, Capsule, datagram, assign, request, advertise, unknown, capsule, readCapsule, capsuleBytes}
 use Rattle.capsule.specs.Sound.{Sound, inWords, valueStart}
 use Rattle.capsule.specs.Shortest.{shortestCapsule}
 use Rattle.capsule.proofs.RoundTrip.{read-written, shortest-written}
@@ -45,14 +47,21 @@ use Rattle.state.specs.Loading.{LoadsPlan}
 use Rattle.state.proofs.LoadLaws.{file-loaded, load-keeps-sound}
 use Rattle.exchange.specs.Reading.{readingIn, ReadsCapsule}
 use Rattle.exchange.specs.Writing.{Gives, Assigns, Advertises, AssignsValue, AdvertisesValue, RequestsValue, entriesTaken, rangesTaken}
-use Rattle.exchange.specs.declared.handing.CapsuleAnswered.{CapsuleAnswered}
-use Rattle.exchange.specs.Handing.{HandsBack}
 use Rattle.exchange.proofs.ReadLaws.{read-refusal-leaves, read-keeps-sound, assign-replaces, advertise-replaces}
 use Rattle.exchange.proofs.ReadLaws.{request-handed, datagram-leaves, other-leaves}
-use Rattle.exchange.proofs.HandingLaws.{hand-keeps-sound}
 use Rattle.exchange.proofs.WriteLaws.{assign-gives, advertise-gives, assign-received, advertise-received}
 use Rattle.exchange.proofs.WriteLaws.{assign-value-gives, advertise-value-gives, assign-keeps-sound, advertise-keeps-sound}
 use Rattle.exchange.proofs.WriteLaws.{assign-value-keeps-sound, advertise-value-keeps-sound, assign-value-received, advertise-value-received}
+use Rattle.stream.specs.declared.feeding.Call.the-variants.{Handed, Between, Wait, Stopped}
+use Rattle.stream.specs.declared.feeding.Piece.{Piece}
+use Rattle.stream.specs.Store.{empty, soundStore}
+use Rattle.stream.specs.Feeding.{keptSize, storeIn, Feeds}
+use Rattle.stream.specs.Handing.{HandsOn}
+use Rattle.stream.specs.Runs.{Lent, Ready, Calls, Through, ReadsAll, SameAs, Repeats, EndsIn, LeavesAll, Remembers, Rests, Waits}
+use Rattle.stream.proofs.FeedLaws.{ready-within, feed-keeps-sound, hand-keeps-sound}
+use Rattle.stream.proofs.CallLaws.{no-room, broken-lists, broken-store, repeats, refused-either, wait-unfinished, between-rests, handed-ends, skipped-not-kept}
+use Rattle.stream.proofs.EndLaws.{calls-repeat, calls-through}
+use Rattle.stream.proofs.BufferLaws.{cut-anywhere, cut-in-two}
 use Rattle.ends.specs.Ends.{Exchanged}
 use Rattle.template.specs.Members.{In}
 use Rattle.template.specs.Fits.{fits}
@@ -61,10 +70,11 @@ use Rattle.tunnel.specs.Tunnel.{sendRoom, receiveRoom, Sends, Receives}
 use Rattle.tunnel.specs.Answers.{sendAnswer, sendOutput, receiveAnswer, receiveOutput, Passes, datagramOf, packetOf}
 use Rattle.tunnel_c.specs.declared.PlainAnswer.{PlainAnswer}
 use Rattle.tunnel_c.specs.declared.capsules.PlainCapsule.{PlainCapsule}
-use Rattle.tunnel_c.specs.Plain.{plainAnswer, Plainly, ReadsPlainly, AssignsPlainly, AdvertisesPlainly}
-use Rattle.ends.specs.Outcomes.{Leaves, ReadBack, Consumed, StaysSound, allowedOut, allowedIn, SentShort, TakesIn, Twins}
-use Rattle.ends.proofs.Refusals.{writes-leaves, gives-leaves, load-leaves, state-load-leaves, hand-leaves, consumed}
-use Rattle.ends.proofs.Refusals.{plainly-leaves, plainly-gives-leaves, plainly-read-leaves}
+use Rattle.tunnel_c.specs.declared.pieces.PlainPiece.{PlainPiece}
+use Rattle.tunnel_c.specs.Plain.{plainAnswer, Plainly, ReadsPlainly, AssignsPlainly, AdvertisesPlainly, FeedsPlainly}
+use Rattle.ends.specs.Outcomes.{Leaves, PieceRefused, ReadBack, Consumed, StaysSound, allowedOut, allowedIn, SentShort, TakesIn, Twins}
+use Rattle.ends.proofs.Refusals.{writes-leaves, gives-leaves, load-leaves, state-load-leaves, consumed}
+use Rattle.ends.proofs.Refusals.{plainly-leaves, plainly-gives-leaves, plainly-read-leaves, plainly-feed-leaves}
 use Rattle.ends.proofs.WrittenBack.{datagram-back, assign-back, request-back, routes-back}
 use Rattle.ends.proofs.Passing.{sends-answer, receives-answer, allowed-passes, passes-allowed, passes-lowers, allowed-taken, taken-allowed, taken-unchanged}
 use Rattle.ends.proofs.Passing.{icmp-out, icmp-out-reply, icmp-in, icmp-in-reply, icmp-4-not-58}
@@ -114,11 +124,6 @@ load-refused = load-leaves
 pub state-load-refused : (file w after : List ℕ) (r : Verdict) → LoadsPlan file w r after → (why : Refusal) → r ≡ Stop why → after ≡ w
 state-load-refused = state-load-leaves
 
--- a capsule of the stream that is refused hands nothing back
-pub hand-refused : {w s : List ℕ} {at : ℕ} {before : List ℕ} {r : CapsuleAnswered} {later after : List ℕ} → HandsBack w s at before r later after
-    → (why : Refusal) → r .answer ≡ Refused why → (later ≡ w) × (after ≡ before) × (r .next ≡ at)
-hand-refused = hand-leaves
-
 -- a capsule that is refused alters no word of the state and of the host's list for requests, and consumes nothing
 pub read-refused : {w s : List ℕ} {at : ℕ} {l : List ℕ} {r : CapsuleRead} {after list : List ℕ} → ReadsCapsule w s at l r after list
     → (why : Refusal) → r .verdict ≡ Stop why → (after ≡ w) × (list ≡ l) × (r .next ≡ at)
@@ -145,6 +150,59 @@ module _ {r : PlainAnswer} where
 pub plain-read-refused : {w s : List ℕ} {at : ℕ} {l : List ℕ} {r : PlainCapsule} {after list : List ℕ} → ReadsPlainly w s at l r after list
     → (r .number ≡ 0 → ⊥) → (after ≡ w) × (list ≡ l) × (r .next ≡ at)
 plain-read-refused = plainly-read-leaves
+
+-- ---- 1 as request 01 amends it: the stream in pieces. `Lent w held`: the state and the memory for kept bytes have their sizes. `Ready w held`: and lists,
+-- templates and store keep their rules. `storeIn w held` is what is kept
+module _ {w held t before l : List ℕ} {r : Piece} {later holds after list : List ℕ} (c : Feeds w held t before l r later holds after list) where
+  -- a refusal alters nothing that was lent, or it is one of 2 to 7, and the word that remembers it is all that it alters
+  pub feed-refused : Lent w held → Bytes t → (why : Refusal) → r .call ≡ Stopped why
+      → LeavesAll why w held before l r later holds after list ⊎ Remembers why w held before l r later holds after list
+  feed-refused = refused-either c
+
+  -- 16 and 9 alter nothing, so they are not remembered; 16 comes first
+  pub feed-no-room : length before < maxValue → LeavesAll NoRoom w held before l r later holds after list
+  feed-no-room = no-room c
+
+  pub feed-broken-lists : maxValue ≤ length before → soundState (stateIn w) ≡ false → LeavesAll BrokenState w held before l r later holds after list
+  feed-broken-lists = broken-lists c
+
+  pub feed-broken-store : maxValue ≤ length before → soundState (stateIn w) ≡ true → soundStore (storeIn w held) ≡ false
+      → LeavesAll BrokenState w held before l r later holds after list
+  feed-broken-store = broken-store c
+
+  module _ (ready : Ready w held) (room : maxValue ≤ length before) where
+    -- what is remembered is repeated, and then alters nothing
+    pub feed-repeats : (why : Refusal) → storeIn w held .stopped ≡ Stop why → LeavesAll why w held before l r later holds after list
+    feed-repeats = repeats c ready room
+
+    -- 1 is given only while a capsule is open, takes all bytes, and changes only what is kept
+    pub feed-waits : Bytes t → r .call ≡ Wait → Waits w t before l r later holds after list
+    feed-waits = wait-unfinished c ready room
+
+    -- between capsules, with no bytes, it is 0
+    pub feed-between : Bytes t → r .call ≡ Between → Rests w held t before l r later holds after list
+    feed-between = between-rests c ready room
+
+    -- a capsule is handed out with its last byte, and no byte past it is taken
+    pub feed-ends : Bytes t → (kind n : ℕ) → r .call ≡ Handed kind n → EndsIn (storeIn w held) t (r .taken) × (storeIn later holds ≡ empty)
+    feed-ends = handed-ends c ready room
+
+-- the same of the function for C, by the number that it hands over: lists, templates and store stand, and the last word of the state may hold the number
+pub plain-feed-refused : {w held t before l : List ℕ} {r : PlainPiece} {later holds after list : List ℕ} → FeedsPlainly w held t before l r later holds after list
+    → Lent w held → Bytes t → 1 < r .number → PieceRefused w held before l r later holds after list
+plain-feed-refused = plainly-feed-leaves
+
+-- after that refusal each call repeats it: none hands out a capsule or alters anything
+pub refusal-repeated : {w held left : List ℕ} {ps : List (List ℕ)} {handed : List Capsule} {later holds rest : List ℕ}
+    → Calls w held left ps handed later holds rest → Ready w held → (why : Refusal) → storeIn w held .stopped ≡ Stop why → Repeats w held handed later holds
+refusal-repeated = calls-repeat
+
+-- fewer bytes are kept than the memory for them holds, and none of a value that is skipped
+pub kept-fits : {w held : List ℕ} → Ready w held → length (storeIn w held .kept) < keptSize
+kept-fits = ready-within
+
+pub skipped-unkept : {w held : List ℕ} → Ready w held → 0 < storeIn w held .skip → storeIn w held .kept ≡ []
+skipped-unkept = skipped-not-kept
 
 -- ---- 2. Capsules, lists and verdicts
 
@@ -255,9 +313,6 @@ module _ {w later : List ℕ} (size : stateWords ≤ length w) where
   pub read-stays-sound : {s l list : List ℕ} {at : ℕ} {r : CapsuleRead} → ReadsCapsule w s at l r later list → StaysSound w later
   read-stays-sound k = read-keeps-sound k size
 
-  pub hand-stays-sound : {s before after : List ℕ} {at : ℕ} {r : CapsuleAnswered} → HandsBack w s at before r later after → StaysSound w later
-  hand-stays-sound k = hand-keeps-sound k size
-
   pub load-stays-sound : (file : List ℕ) {r : Verdict} → LoadsPlan file w r later → Bytes file → StaysSound w later
   load-stays-sound file k b = load-keeps-sound file w later k b size
 
@@ -273,6 +328,36 @@ module _ {w later : List ℕ} (size : stateWords ≤ length w) where
 
     pub routes-value-stay-sound : AdvertisesValue w l before r later after → StaysSound w later
     routes-value-stay-sound k = advertise-value-keeps-sound w l before size k
+
+-- the stream in pieces leaves lists, templates and store that keep their rules: the box never gives 9 to itself
+pub feed-stays-ready : {w held t before l : List ℕ} {r : Piece} {later holds after list : List ℕ} → Feeds w held t before l r later holds after list
+    → Ready w held → Bytes t → Ready later holds
+feed-stays-ready = feed-keeps-sound
+
+pub hand-stays-ready : {w held t before : List ℕ} {r : Piece} {later holds after : List ℕ} → HandsOn w held t before r later holds after
+    → Ready w held → Bytes t → Ready later holds
+hand-stays-ready = hand-keeps-sound
+
+-- request 01: with room, from an empty store and the same lists, each call given those that the last one left and the bytes that it left, for any way of cutting
+-- the same bytes, the capsules handed out, the lists and the first refusal other than 1 are those of the whole buffer, read from place to place
+pub cut-as-whole : {w held : List ℕ} {ps : List (List ℕ)} {handed : List Capsule} {later holds rest u s : List ℕ} {read : List Capsule} {left : List ℕ} {v : Verdict}
+    → Calls w held [] ps handed later holds rest → Through later holds rest → ReadsAll u s 0 read left v
+    → Ready w held → storeIn w held ≡ empty → stateWords ≤ length u → stateIn u ≡ stateIn w → flatten ps ≡ s → Bytes s
+    → SameAs handed later holds read left v
+cut-as-whole = cut-anywhere
+
+-- as many calls with no new bytes as there are bytes left come to the end, or to a refusal
+pub comes-through : {w held left : List ℕ} {ps : List (List ℕ)} {handed : List Capsule} {later holds rest : List ℕ}
+    → Calls w held left ps handed later holds rest → Ready w held → Bytes left → flatten ps ≡ [] → length left ≤ length ps → Through later holds rest
+comes-through = calls-through
+
+-- the step: a ++ b to its end hands out, and leaves as lists and refusal, what a, and then b to its end does; from any store
+pub cut-between : {w held a b : List ℕ} {ps : List (List ℕ)} {handed : List Capsule} {later holds rest : List ℕ}
+    {qs : List (List ℕ)} {first : List Capsule} {mid now over : List ℕ} {rs : List (List ℕ)} {second : List Capsule} {left keeps more : List ℕ}
+    → Calls w held [] ps handed later holds rest → Through later holds rest → flatten ps ≡ a ++ b
+    → Calls w held [] qs first mid now over → flatten qs ≡ a → Calls mid now over rs second left keeps more → Through left keeps more → flatten rs ≡ b
+    → Ready w held → Bytes (a ++ b) → SameAs handed later holds (first ++ second) left (storeIn left keeps .stopped)
+cut-between = cut-in-two
 
 -- what is said below of `sendAnswer`, `sendOutput`, `receiveAnswer` and `receiveOutput` is said of what the two entry points answer and leave
 pub send-answers : (w p : List ℕ) {before after : List ℕ} {r : Answer} → Sends w p before r after

@@ -1,33 +1,41 @@
 -- What a refusal leaves, from the records that the contracts of the entry points are. Assumes nothing.
-use Prim.Native.Nat.{ℕ}
+use Prim.Native.Nat.{ℕ, _+_, _<_}
 use mathlib.Core.Path.{_≡_, refl, sym, ap, _∙_}
-use mathlib.Core.List.{List}
+use mathlib.Core.List.{List, [], _∷_}
+use mathlib.Core.Logic.{_⊎_, inl, inr}
 use native.Mathlib.Omega.{arith}
-use lib.ListN.{length}
 use Rattle.answer.specs.declared.Refusal.{Refusal}
 use Rattle.answer.specs.declared.Answer.{Answer}
-use Rattle.answer.specs.declared.Answer.the-variants.{Refused}
 use Rattle.answer.specs.declared.Verdict.{Verdict}
 use Rattle.answer.specs.declared.Verdict.the-variants.{Go, Stop}
-use Rattle.answer.specs.Number.{answerNumber, answerLength, verdictNumber}
-use Rattle.answer.specs.Verdict.{Writes, answerOf, outputOf, kept}
+use Rattle.answer.specs.Number.{numberOf, answerNumber, answerLength, verdictNumber}
+use Rattle.answer.specs.Verdict.{Writes}
+use Rattle.octets.specs.Big.{Bytes}
+use Rattle.octets.specs.Parts.{withPart}
 use Rattle.capsule.specs.Capsules.{Capsule, capsule, readCapsule}
-use Rattle.capsule.specs.Results.{resultAt}
 use Rattle.capsule.proofs.ReadFacts.{read-facts}
 use Rattle.capsule.proofs.ReadLaws.{read-size}
 use Rattle.table.specs.Templates.{Template}
 use Rattle.table.specs.File.{Step, stop, found, planIn}
 use Rattle.table.specs.Load.{verdictIn, loaded, planRead, Loads}
+use Rattle.state.specs.State.{storeAt, stateWords}
 use Rattle.state.specs.Loading.{withTemplates, LoadsPlan}
-use Rattle.exchange.specs.declared.handing.CapsuleAnswered.{CapsuleAnswered}
-use Rattle.exchange.specs.Reading.{readingIn, received}
 use Rattle.exchange.specs.Writing.{Gives}
-use Rattle.exchange.specs.Handing.{handed, handingVerdict, HandsBack}
 use Rattle.exchange.proofs.ReadLaws.{read-refusal-leaves}
+use Rattle.stream.specs.declared.feeding.Call.{Call}
+use Rattle.stream.specs.declared.feeding.Call.the-variants.{Handed, Between, Wait, Stopped}
+use Rattle.stream.specs.declared.feeding.Piece.{Piece}
+use Rattle.stream.specs.Runs.{Lent, LeavesAll, Remembers}
+use Rattle.stream.proofs.CallLaws.{refused-either}
 use Rattle.tunnel_c.specs.declared.PlainAnswer.{PlainAnswer}
 use Rattle.tunnel_c.specs.declared.capsules.PlainCapsule.{PlainCapsule}
-use Rattle.tunnel_c.specs.Plain.{plainAnswer, plainCapsule, Plainly, ReadsPlainly}
-use Rattle.ends.specs.Outcomes.{Leaves, Consumed}
+use Rattle.tunnel_c.specs.declared.pieces.PlainPiece.{PlainPiece}
+use Rattle.tunnel_c.specs.Plain.{plainAnswer, plainCapsule, notHanded, plainCall, plainPiece, Plainly, ReadsPlainly, FeedsPlainly}
+use Rattle.ends.specs.Outcomes.{Leaves, PieceRefused, Consumed}
+
+-- a call that stopped
+data Stops (n : ℕ) (c : Call) : Type 0 where
+  stops : {why : Refusal} → c ≡ Stopped why → Stops n c
 
 pub writes-leaves : (v : Verdict) {m before after : List ℕ} {r : Answer} → Writes v m before r after → Leaves r before after
 writes-leaves Go w h = absurd (h (ap answerNumber (w .answer)))
@@ -64,6 +72,47 @@ plainly-read-leaves {w} {s} {at} {l} {r} {after} {list} q h = of (q .answer .ver
         let k = read-refusal-leaves (q .promised) why e in
         (k .0, k .1, ap (λ (x : PlainCapsule). x .next) (q .shown) ∙ k .2)
 
+-- the number of a refusal other than 1 is handed over of such a refusal alone
+plain-stopped : (n : ℕ) (c : Call) → 1 < plainCall n c .number → Stops n c
+plain-stopped n (Handed kind size) h = absurd (omega arith)
+plain-stopped n Between h = absurd (omega arith)
+plain-stopped n Wait h = absurd (omega arith)
+plain-stopped n (Stopped why) h = stops refl
+
+pub plainly-feed-leaves : {w held t before l : List ℕ} {r : PlainPiece} {later holds after list : List ℕ} → FeedsPlainly w held t before l r later holds after list
+    → Lent w held → Bytes t → 1 < r .number → PieceRefused w held before l r later holds after list
+plainly-feed-leaves {w} {held} {t} {before} {l} {r} {later} {holds} {after} {list} q m b h =
+    of (plain-stopped (q .answer .taken) (q .answer .call) (rw (q .shown) at h))
+  where
+    told : (why : Refusal) → q .answer ≡ record { call = Stopped why; taken = 0 } → r ≡ notHanded (numberOf why) 0
+    told why e = q .shown ∙ ap plainPiece e
+
+    either : (why : Refusal) → LeavesAll why w held before l (q .answer) later holds after list ⊎ Remembers why w held before l (q .answer) later holds after list
+        → PieceRefused w held before l r later holds after list
+    either why (inl k) =
+        let e = told why (k .answer) in
+        record {
+          handed = ap (λ (x : PlainPiece). x .handed) e;
+          taken = ap (λ (x : PlainPiece). x .taken) e;
+          state = inl (k .untouched .state);
+          bytes = k .untouched .bytes;
+          output = k .untouched .output;
+          requested = k .untouched .requested;
+        }
+    either why (inr k) =
+        let e = told why (k .answer) in
+        record {
+          handed = ap (λ (x : PlainPiece). x .handed) e;
+          taken = ap (λ (x : PlainPiece). x .taken) e;
+          state = inr (k .state ∙ ap (λ (x : PlainPiece). withPart w (storeAt + 2) stateWords (x .number ∷ [])) (sym e));
+          bytes = k .bytes;
+          output = k .output;
+          requested = k .requested;
+        }
+
+    of : Stops (q .answer .taken) (q .answer .call) → PieceRefused w held before l r later holds after list
+    of (stops {why} e) = either why (refused-either (q .promised) m b why e)
+
 -- a file that is refused gives no templates
 file-leaves : {A : Type 0} (put : Step (List Template) → A) (before : A) → ((r : Refusal) → put (stop r) ≡ before)
     → (x : Step (List Template)) (why : Refusal) → verdictIn x ≡ Stop why → put x ≡ before
@@ -79,18 +128,6 @@ pub state-load-leaves : (file w after : List ℕ) (r : Verdict) → LoadsPlan fi
 unfolding planRead
 state-load-leaves file w after r l why e =
     l .words ∙ file-leaves (λ x. withTemplates x w) w (λ r. refl) (planIn file) why (sym (l .verdict) ∙ e)
-
-pub hand-leaves : {w s : List ℕ} {at : ℕ} {before : List ℕ} {r : CapsuleAnswered} {later after : List ℕ} → HandsBack w s at before r later after
-    → (why : Refusal) → r .answer ≡ Refused why → (later ≡ w) × (after ≡ before) × (r .next ≡ at)
-hand-leaves {w} {s} {at} {before} k why e =
-    let x = readingIn w s at in
-    of (handingVerdict w s at (length before)) (handed x) (received w x) (length (handed x)) (resultAt at x .next)
-    (k .state) (k .writes .output) (k .place) (sym (k .writes .answer) ∙ e)
-  where
-    of : (v : Verdict) (m new : List ℕ) (n place : ℕ) {later after : List ℕ} {next : ℕ} → later ≡ kept v new w → after ≡ outputOf v m before
-        → next ≡ kept v place at → answerOf v n ≡ Refused why → (later ≡ w) × (after ≡ before) × (next ≡ at)
-    of Go m new n place a b c d = absurd (let z : _≡_ {A = ℕ} 0 1 = cc in omega arith)
-    of (Stop other) m new n place a b c d = (a, b, c)
 
 -- what a capsule that was read consumed
 pub consumed : (s : List ℕ) (c : Capsule) (start size : ℕ) → readCapsule s ≡ capsule c start size → Consumed s size

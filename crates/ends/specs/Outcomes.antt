@@ -1,6 +1,7 @@
 -- What the demands say of an answer, of a capsule that was read, and of a packet that was sent or taken in.
 use Prim.Native.Nat.{ℕ, _+_, _≤_}
 use mathlib.Core.Path.{_≡_}
+use mathlib.Core.Logic.{_⊎_}
 use mathlib.Core.Bool.{Bool, true, _&&_}
 use mathlib.Core.List.{List, [], _∷_, _++_}
 use lib.Dec.{leb}
@@ -14,15 +15,26 @@ use Rattle.inet.specs.Packet.{form, hopsOf, lowered}
 use Rattle.capsule.specs.Capsules.{Capsule, capsule, readCapsule}
 use Rattle.capsule.specs.Sound.{valueStart}
 use Rattle.table.specs.Templates.{Template}
-use Rattle.state.specs.State.{State, soundState, sendingGranted, receivingGranted, stateIn}
+use Rattle.octets.specs.Parts.{withPart}
+use Rattle.state.specs.State.{State, soundState, sendingGranted, receivingGranted, storeAt, stateWords, stateIn}
 use Rattle.template.specs.Members.{In}
 use Rattle.template.specs.Fits.{fits}
 use Rattle.template.specs.Datagrams.{maxPacket, shortForm}
 use Rattle.tunnel.specs.Answers.{receiveAnswer, receiveOutput, datagramOf}
+use Rattle.tunnel_c.specs.declared.pieces.PlainPiece.{PlainPiece}
 
 -- a refusal says a length of 0, and leaves the output as it was
 abbrev pub Leaves : Answer → List ℕ → List ℕ → Type 0
 Leaves r before after = (answerNumber r ≡ 0 → ⊥) → (answerLength r ≡ 0) × (after ≡ before)
+
+-- a refusal of the stream in pieces, other than 1: it hands out and takes nothing, and alters no more than the word that remembers it
+pub record PieceRefused (w held before l : List ℕ) (r : PlainPiece) (later holds after list : List ℕ) : Type 0 where
+  pub handed : r .handed ≡ 0
+  pub taken : r .taken ≡ 0
+  pub state : (later ≡ w) ⊎ (later ≡ withPart w (storeAt + 2) stateWords (r .number ∷ []))
+  pub bytes : holds ≡ held
+  pub output : after ≡ before
+  pub requested : list ≡ l
 
 -- the n bytes that were written are read back as the capsule c, whatever follows them
 abbrev pub ReadBack : Capsule → ℕ → List ℕ → List ℕ → Type 0
