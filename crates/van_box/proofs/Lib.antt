@@ -3,6 +3,7 @@ pub mod Heads
 pub mod Held
 pub mod Outcomes
 pub mod Shares
+pub mod HandedOut
 pub mod Streaming
 pub mod Passing
 pub mod SoundStates

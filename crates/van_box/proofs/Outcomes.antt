@@ -1,8 +1,9 @@
 -- What each kind of record leaves, from what its library function promises and the head in front. A verdict is the same for every larger room.
 -- Assumes nothing.
 use Prim.Native.Nat.{ℕ, _+_, _-_, _≤_}
+use mathlib.Core.Bool.{Bool}
 use mathlib.Core.Path.{_≡_, refl, sym, ap, _∙_}
-use mathlib.Core.List.{List}
+use mathlib.Core.List.{List, []}
 use native.Mathlib.Omega.{arith}
 use borrow.Author.Tests.{le-ltb, ne-eqb}
 use lib.ListN.{length, length-take, length-drop}
@@ -12,24 +13,24 @@ use Rattle.answer.specs.declared.Answer.{Answer}
 use Rattle.answer.specs.declared.Answer.the-variants.{Done, Refused}
 use Rattle.answer.specs.declared.Verdict.{Verdict}
 use Rattle.answer.specs.declared.Verdict.the-variants.{Go, Stop}
-use Rattle.answer.specs.Verdict.{kept, Writes}
+use Rattle.answer.specs.Verdict.{outputOf, kept, Writes}
 use Rattle.output.proofs.Placing.{lent}
-use Rattle.capsule.specs.Capsules.{Reading, refused, capsule}
-use Rattle.capsule.specs.Results.{resultAt}
+use Rattle.capsule.specs.Capsules.{maxValue}
 use Rattle.capsule_write.specs.Verdicts.{capsuleRoom, withRoom}
 use Rattle.state.specs.State.{State}
 use Rattle.state.specs.Loading.{LoadsPlan}
-use Rattle.exchange.specs.declared.handing.CapsuleAnswered.{CapsuleAnswered}
-use Rattle.exchange.specs.Reading.{readingIn, received}
-use Rattle.exchange.specs.Handing.{readingVerdict, handingVerdict, HandsBack}
 use Rattle.exchange.specs.Writing.{Gives, AssignsValue, AdvertisesValue, RequestsValue}
+use Rattle.stream.specs.declared.feeding.Piece.{Piece}
+use Rattle.stream.specs.Store.{Said, out, clean, wait, no, Fed}
+use Rattle.stream.specs.Feeding.{feedTests, fed, onOut, stateFed}
+use Rattle.stream.specs.Handing.{contents, handVerdict, handedCall, handedPiece, HandsOn}
 use Rattle.tunnel.specs.Tunnel.{sendRoom, receiveRoom, sendTests, sendVerdict, receiveTests, receiveVerdict, Sends, Receives}
 use Rattle.van_box.specs.declared.outgoing.Output.{Output}
 use Rattle.van_box.specs.Sizes.{answerHead, answerRoom}
 use Rattle.van_box.specs.Outgoing.{unknownAnswer, Appends, PutsHead}
 use Rattle.van_box.specs.Records.{streamKind, planKind, assignKind, advertiseKind, requestKind, packetKind, datagramKind}
-use Rattle.van_box.specs.Records.{Outcome, leaving, sentAnswer, receivedAnswer, requestAnswer, planOutcome, giving, assignOutcome, advertiseOutcome}
-use Rattle.van_box.specs.Records.{streamOutcome, outcome, Answers, AnswersCapsule}
+use Rattle.van_box.specs.Records.{Memory, memory, Outcome, leaving, beside, sentAnswer, receivedAnswer, requestAnswer, planOutcome, giving, assignOutcome, advertiseOutcome}
+use Rattle.van_box.specs.Records.{Step, stepOf, stepped, saidVerdict, callAnswer, isHanded, streamOutcome, outcome, Answers, AnswersPiece}
 use Rattle.van_box.proofs.Heads.{answered, head-done, head-refused}
 
 -- ---- verdicts in a larger room
@@ -45,8 +46,38 @@ capsule-room : (v : Verdict) (n : ℕ) → capsuleRoom ≤ n → withRoom n v �
 unfolding withRoom
 capsule-room v n h = rw (le-ltb n capsuleRoom h)
 
+hand-room : (w held : List ℕ) (n : ℕ) → capsuleRoom ≤ n → handVerdict w held n ≡ handVerdict w held capsuleRoom
+unfolding feedTests
+hand-room w held n h = rw (le-ltb n capsuleRoom h, le-ltb n maxValue (omega arith))
+
 writes-as : {u v : Verdict} {m before after : List ℕ} {r : Answer} → u ≡ v → Writes u m before r after → Writes v m before r after
 writes-as e w = rw e at w
+
+-- ---- a call: its answer, what it takes and leaves are those of its step
+module _ (m : Memory) (f : Fed) where
+  piece-writes : (v : Verdict) (before : List ℕ)
+      → Writes (saidVerdict (stepOf v m f .said)) (onOut contents [] (stepOf v m f .said)) before (callAnswer (handedPiece v f .call))
+      (outputOf v (onOut contents [] (f .said)) before)
+  piece-writes Go before = of (f .said)
+    where
+      of : (x : Said) → Writes (saidVerdict x) (onOut contents [] x) before (callAnswer (handedCall x)) (outputOf Go (onOut contents [] x) before)
+      of (out c) = record { answer = refl; output = refl }
+      of clean = record { answer = refl; output = refl }
+      of wait = record { answer = refl; output = refl }
+      of (no r) = record { answer = refl; output = refl }
+  piece-writes (Stop r) before = record { answer = refl; output = refl }
+
+  piece-taken : (v : Verdict) → handedPiece v f .taken ≡ stepOf v m f .taken
+  piece-taken Go = refl
+  piece-taken (Stop r) = refl
+
+  piece-handed : (v : Verdict) → isHanded (handedPiece v f .call) ≡ isHanded (handedCall (stepOf v m f .said))
+  piece-handed Go = refl
+  piece-handed (Stop r) = refl
+
+  piece-memory : (v : Verdict) → memory (kept v (stateFed (m .state) f) (m .state)) (outputOf v (f .store .kept) (m .bytes)) ≡ stepOf v m f .memory
+  piece-memory Go = refl
+  piece-memory (Stop r) = refl
 
 -- ---- a function that writes to `&mut out[start..]`
 module _ (o : Output) (out : List ℕ) (room : o .used + answerRoom ≤ length out) where
@@ -79,7 +110,7 @@ module _ (o : Output) (out : List ℕ) (room : o .used + answerRoom ≤ length o
     given {kind} {new = new} {w = w} e t q =
         record {
           answers = answered kind o out (omega arith) (writes-as e (t .writes)) k q;
-          state = t .state ∙ ap (λ (x : Verdict). kept x new w) e;
+          left = t .state ∙ ap (λ (x : Verdict). kept x new w) e;
         }
 
     pub assigned : (w v : List ℕ) {later : List ℕ} → AssignsValue w v (lent start out) a later b → PutsHead assignKind a o (Back b) r after
@@ -92,72 +123,74 @@ module _ (o : Output) (out : List ℕ) (room : o .used + answerRoom ≤ length o
     unfolding advertiseOutcome
     advertised w v t q = given (capsule-room _ _ roomy) t q
 
-  -- ---- a capsule of the stream: a refusal leaves place and state
-  verdict-read : (w s : List ℕ) (at : ℕ) → handingVerdict w s at (length (lent start out)) ≡ readingVerdict (readingIn w s at)
-  unfolding handingVerdict withRoom
-  verdict-read w s at = rw (le-ltb (length (lent start out)) capsuleRoom roomy)
+  -- ---- a call with bytes of the stream
+  abbrev verdict : List ℕ → List ℕ → Verdict
+  verdict w held = handVerdict w held (length (lent start out))
 
-  next-kept : (at : ℕ) (x : Reading) → kept (readingVerdict x) (resultAt at x .next) at ≡ resultAt at x .next
-  next-kept at (refused why) = refl
-  next-kept at (capsule c a z) = refl
+  same-step : (w held s : List ℕ) → stepOf (verdict w held) (memory w held) (fed w held s) ≡ stepped (memory w held) s
+  unfolding stepped
+  same-step w held s = ap (λ (v : Verdict). stepOf v (memory w held) (fed w held s)) (hand-room w held _ roomy)
 
-  state-kept : (w : List ℕ) (x : Reading) → kept (readingVerdict x) (received w x) w ≡ received w x
-  state-kept w (refused why) = refl
-  state-kept w (capsule c a z) = refl
+  module _ {w held s : List ℕ} {x : Piece} {a : Answer} {later holds b : List ℕ} (t : HandsOn w held s (lent start out) x later holds b)
+      (e : a ≡ callAnswer (x .call)) where
+    pub handed-writes : Writes (saidVerdict (stepped (memory w held) s .said)) (onOut contents [] (stepped (memory w held) s .said)) (lent start out) a b
+    handed-writes =
+        rw (e, t .answer, t .output, ← same-step w held s) (piece-writes (memory w held) (fed w held s) (verdict w held) (lent start out))
 
-  pub handed-back : {w s : List ℕ} {at : ℕ} {x : CapsuleAnswered} {later b after : List ℕ} {r : Output} → length b ≡ length (lent start out)
-      → HandsBack w s at (lent start out) x later b → PutsHead streamKind (x .answer) o (Back b) r after
-      → AnswersCapsule w s at o out (record { output = r; next = x .next }) later after
-  handed-back {w} {s} {at} k t q =
-      let e = verdict-read w s at in
-      record {
-        answer = answered streamKind o out (omega arith) (writes-as e (t .writes)) k q;
-        place = t .place ∙ ap (λ (v : Verdict). kept v (resultAt at (readingIn w s at) .next) at) e ∙ next-kept at (readingIn w s at);
-        state = t .state ∙ ap (λ (v : Verdict). kept v (received w (readingIn w s at)) w) e ∙ state-kept w (readingIn w s at);
-      }
+    pub handed-on : {h : Bool} {after : List ℕ} {r : Output} → h ≡ isHanded (x .call) → length b ≡ length (lent start out)
+        → PutsHead streamKind a o (Back b) r after
+        → AnswersPiece (memory w held) s o out (record { output = r; taken = x .taken; handed = h }) (memory later holds) after
+    handed-on g k q =
+        let f = same-step w held s in
+        record {
+          answer = answered streamKind o out (omega arith) handed-writes k q;
+          taken = ap (λ (y : Piece). y .taken) (t .answer) ∙ piece-taken (memory w held) (fed w held s) (verdict w held) ∙ ap (λ (y : Step). y .taken) f;
+          handed = g ∙ ap (λ (y : Piece). isHanded (y .call)) (t .answer) ∙ piece-handed (memory w held) (fed w held s) (verdict w held) ∙ ap (λ (y : Step). isHanded (handedCall (y .said))) f;
+          memory = rw (t .state, t .bytes) (piece-memory (memory w held) (fed w held s) (verdict w held)) ∙ ap (λ (y : Step). y .memory) f;
+        }
 
 -- ---- a plan file: its answer is a head alone
 module _ {file w later out after : List ℕ} {v : Verdict} {o r : Output} (t : LoadsPlan file w v later) where
   pub plan-good : v ≡ Go → PutsHead planKind (Done 0) o out r after → Answers (planOutcome w file) o out r later after
   unfolding planOutcome
-  plan-good e q = rw (sym (t .verdict) ∙ e) (record { answers = head-done q; state = t .words })
+  plan-good e q = rw (sym (t .verdict) ∙ e) (record { answers = head-done q; left = t .words })
 
   pub plan-refused : {why : Refusal} → v ≡ Stop why → PutsHead planKind (Refused why) o out r after → Answers (planOutcome w file) o out r later after
   unfolding planOutcome
-  plan-refused e q = rw (sym (t .verdict) ∙ e) (record { answers = head-refused q; state = t .words })
+  plan-refused e q = rw (sym (t .verdict) ∙ e) (record { answers = head-refused q; left = t .words })
 
 -- ---- the outcome of a record by its kind
-module _ (kind : ℕ) (w s : List ℕ) where
-  pub outcome-stream : kind ≡ streamKind → outcome kind w s ≡ streamOutcome w s
+module _ (kind : ℕ) (m : Memory) (s : List ℕ) where
+  pub outcome-stream : kind ≡ streamKind → outcome kind m s ≡ streamOutcome m s
   unfolding outcome
   outcome-stream e = rw e
 
-  pub outcome-plan : kind ≡ planKind → outcome kind w s ≡ planOutcome w s
+  pub outcome-plan : kind ≡ planKind → outcome kind m s ≡ beside (m .bytes) (planOutcome (m .state) s)
   unfolding outcome
   outcome-plan e = rw e
 
-  pub outcome-assign : kind ≡ assignKind → outcome kind w s ≡ assignOutcome w s
+  pub outcome-assign : kind ≡ assignKind → outcome kind m s ≡ beside (m .bytes) (assignOutcome (m .state) s)
   unfolding outcome
   outcome-assign e = rw e
 
-  pub outcome-advertise : kind ≡ advertiseKind → outcome kind w s ≡ advertiseOutcome w s
+  pub outcome-advertise : kind ≡ advertiseKind → outcome kind m s ≡ beside (m .bytes) (advertiseOutcome (m .state) s)
   unfolding outcome
   outcome-advertise e = rw e
 
-  pub outcome-request : kind ≡ requestKind → outcome kind w s ≡ leaving (requestAnswer s) w
+  pub outcome-request : kind ≡ requestKind → outcome kind m s ≡ leaving (requestAnswer s) m
   unfolding outcome
   outcome-request e = rw e
 
-  pub outcome-packet : kind ≡ packetKind → outcome kind w s ≡ leaving (sentAnswer w s) w
+  pub outcome-packet : kind ≡ packetKind → outcome kind m s ≡ leaving (sentAnswer (m .state) s) m
   unfolding outcome
   outcome-packet e = rw e
 
-  pub outcome-datagram : kind ≡ datagramKind → outcome kind w s ≡ leaving (receivedAnswer w s) w
+  pub outcome-datagram : kind ≡ datagramKind → outcome kind m s ≡ leaving (receivedAnswer (m .state) s) m
   unfolding outcome
   outcome-datagram e = rw e
 
   pub outcome-unknown : (kind ≡ streamKind → ⊥) → (kind ≡ planKind → ⊥) → (kind ≡ assignKind → ⊥) → (kind ≡ advertiseKind → ⊥)
-      → (kind ≡ requestKind → ⊥) → (kind ≡ packetKind → ⊥) → (kind ≡ datagramKind → ⊥) → outcome kind w s ≡ leaving unknownAnswer w
+      → (kind ≡ requestKind → ⊥) → (kind ≡ packetKind → ⊥) → (kind ≡ datagramKind → ⊥) → outcome kind m s ≡ leaving unknownAnswer m
   unfolding outcome
   outcome-unknown a b c d e f g =
       rw (
@@ -170,11 +203,15 @@ module _ (kind : ℕ) (w s : List ℕ) where
         ne-eqb kind datagramKind g,
       )
 
-module _ {x y : Outcome} {o r : Output} {out later after : List ℕ} where
-  pub answers-as : y ≡ x → Answers x o out r later after → Answers y o out r later after
+module _ {y : Outcome Memory} {o r : Output} {before after : List ℕ} where
+  pub answers-as : {x : Outcome Memory} {later : Memory} → y ≡ x → Answers x o before r later after → Answers y o before r later after
   answers-as e t = rw e t
 
--- the state stays
-pub answers-alone : {x : Outcome} {m w : List ℕ} {o r : Output} {out after : List ℕ} → x ≡ leaving m w → Appends m o out r after
-    → Answers x o out r w after
-answers-alone e t = rw e (record { answers = t; state = refl })
+  -- the kept bytes stay
+  pub answers-beside : {x : Outcome (List ℕ)} {held later : List ℕ} → y ≡ beside held x → Answers x o before r later after
+      → Answers y o before r (memory later held) after
+  answers-beside {held = held} e t = rw e (record { answers = t .answers; left = ap (λ (w : List ℕ). memory w held) (t .left) })
+
+  -- the memory stays
+  pub answers-alone : {a : List ℕ} {m : Memory} → y ≡ leaving a m → Appends a o before r after → Answers y o before r m after
+  answers-alone e t = rw e (record { answers = t; left = refl })

@@ -17,8 +17,8 @@ use Rattle.van_box.specs.declared.Between.{Between}
 use Rattle.van_box.specs.Sizes.{recordHead}
 use Rattle.van_box.specs.Incoming.{Fills, statedSize, recordSize, Sized, Keeps}
 use Rattle.van_box.specs.Outgoing.{Flushes, MakesRoom}
-use Rattle.van_box.specs.Records.{outcome, Answers}
-use Rattle.van_box.specs.Passing.{recordOutcome, none, more, Waiting, Passing, AnswersAll, Turns}
+use Rattle.van_box.specs.Records.{Memory, outcome, Answers}
+use Rattle.van_box.specs.Passing.{Sound, recordOutcome, none, more, Waiting, Passing, AnswersAll, Turns}
 use Rattle.van_box.proofs.Heads.{put-within}
 
 -- a size without a head is none
@@ -36,9 +36,9 @@ pub closed : (s : List ℕ) {b : Bool} → b ≡ false → b ≡ true → record
 closed s e f = let z : _≡_ {A = ℕ} 0 1 = cc in absurd (omega arith)
 
 -- the record at a place, as its parts are taken
-record-at : (w s : List ℕ) (at n : ℕ) → n ≡ recordSize (drop at s)
-    → outcome (getD s at 0) w (take (at + n - (at + recordHead)) (drop (at + recordHead) s)) ≡ recordOutcome w (drop at s)
-record-at w s at n e =
+record-at : (m : Memory) (s : List ℕ) (at n : ℕ) → n ≡ recordSize (drop at s)
+    → outcome (getD s at 0) m (take (at + n - (at + recordHead)) (drop (at + recordHead) s)) ≡ recordOutcome m (drop at s)
+record-at m s at n e =
     let k : at + n - (at + recordHead) ≡ recordSize (drop at s) - recordHead = omega arith in
     let d : getD (drop at s) 0 0 ≡ getD s at 0 = getD-drop at s 0 0 ∙ (let z : at + 0 ≡ at = omega arith in rw z) in
     rw (d, k, drop-drop recordHead at s)
@@ -73,22 +73,22 @@ module _ {answers : List ℕ} {o : Output} {out : List ℕ} (t : Waiting answers
       }
 
 -- ---- the records
-pub passing-none : (w s : List ℕ) (o : Output) (out : List ℕ) → o .used ≡ 0 → Passing w s o 0 w out
-passing-none w s o out e = record { answers = []; passed = none; waiting = waiting-none o out e; within = omega arith }
+pub passing-none : (m : Memory) (s : List ℕ) (o : Output) (out : List ℕ) → o .used ≡ 0 → Passing m s o 0 m out
+passing-none m s o out e = record { answers = []; passed = none; waiting = waiting-none o out e; within = omega arith }
 
-module _ {w s : List ℕ} {o : Output} {at : ℕ} {state out : List ℕ} (t : Passing w s o at state out) where
-  pub passing-more : {n : ℕ} {room r : Output} {mid later after : List ℕ} → Sized s at n → recordHead ≤ n → MakesRoom o out room mid
-      → Answers (outcome (getD s at 0) state (take (at + n - (at + recordHead)) (drop (at + recordHead) s))) room mid r later after
-      → Passing w s r (at + n) later after
-  passing-more {n} {room} {r} {mid} {later} {after} z h m k =
-      let e = record-at state s at n (z .size) in
-      let x = recordOutcome state (drop at s) in
+module _ {m : Memory} {s : List ℕ} {o : Output} {at : ℕ} {now : Memory} {out : List ℕ} (t : Passing m s o at now out) where
+  pub passing-more : {n : ℕ} {room r : Output} {mid : List ℕ} {later : Memory} {after : List ℕ} → Sized s at n → recordHead ≤ n → MakesRoom o out room mid
+      → Answers (outcome (getD s at 0) now (take (at + n - (at + recordHead)) (drop (at + recordHead) s))) room mid r later after
+      → Passing m s r (at + n) later after
+  passing-more {n} {room} {r} {mid} {later} {after} z h f k =
+      let e = record-at now s at n (z .size) in
+      let x = recordOutcome now (drop at s) in
       let q : Answers x room mid r later after = rw e at k in
       let g : recordHead ≤ recordSize (drop at s) = omega (arith, z .size) in
       record {
         answers = t .answers ++ x .answers;
-        passed = rw (z .size, q .state) (more (t .passed) g);
-        waiting = waiting-more (waiting-room (t .waiting) m) (q .answers .put);
+        passed = rw (z .size, q .left) (more (t .passed) g);
+        waiting = waiting-more (waiting-room (t .waiting) f) (q .answers .put);
         within = z .within;
       }
 
@@ -101,9 +101,9 @@ drop-front (suc at) zero l = let z : 0 - suc at ≡ 0 = omega arith in rw z
 drop-front (suc at) (suc end) [] = sym (take-nil (suc end - suc at))
 drop-front (suc at) (suc end) (x ∷ l) = let q : suc end - suc at ≡ end - at = omega arith in rw q (drop-front at end l)
 
-module _ (w : List ℕ) (before : Between) (input : List ℕ) where
-  pub turn-ended : (after : List ℕ) → Turns w before input (record { held = 0; «open» = false }) w after
-  turn-ended after =
+module _ (m : Memory) (before : Between) (input : List ℕ) where
+  pub turn-ended : Sound m → (after : List ℕ) → Turns m before input (record { held = 0; «open» = false }) m after
+  turn-ended k after =
       record {
         bytes = input;
         at = 0;
@@ -113,11 +113,12 @@ module _ (w : List ℕ) (before : Between) (input : List ℕ) where
         left = λ e. let z : _≡_ {A = ℕ} 0 1 = cc in absurd (omega arith);
         all = λ e. let z : _≡_ {A = ℕ} 0 1 = cc in absurd (omega arith);
         within = omega arith;
+        sound = k;
       }
 
-  pub turned : {end left : ℕ} {read after later out done : List ℕ} {x : Answered} {f : Output} → Fills (before .held) input end read
-      → AnswersAll w (take end read) x later out → Flushes (x .output) out f done → Keeps (x .at) end read left after → length after ≡ length read
-      → Turns w before input (record { held = left; «open» = f .«open» }) later after
+  pub turned : {end left : ℕ} {read after out done : List ℕ} {later : Memory} {x : Answered} {f : Output} → Fills (before .held) input end read
+      → AnswersAll m (take end read) x later out → Flushes (x .output) out f done → Keeps (x .at) end read left after → length after ≡ length read
+      → Turns m before input (record { held = left; «open» = f .«open» }) later after
   turned {end} {left} {read} {after} {x = x} i a f k l =
       record {
         bytes = take end read;
@@ -128,4 +129,5 @@ module _ (w : List ℕ) (before : Between) (input : List ℕ) where
         left = λ e. k .front ∙ ap (λ (n : ℕ). take n (drop (x .at) read)) (k .left) ∙ sym (drop-front (x .at) end read);
         all = λ e. a .all (f .still e);
         within = omega (arith, k .left, i .within);
+        sound = a .sound;
       }

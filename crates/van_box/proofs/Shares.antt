@@ -1,5 +1,5 @@
 -- What a capsule hands back is no longer than `answersShare` times what was read of it: an entry is read from at least 7 bytes and written in at most
--- 26. Assumes nothing.
+-- 26. Nor is it longer than a value. Assumes nothing.
 use Prim.Native.Nat.{ℕ, zero, suc, _+_, _*_, _≤_}
 use mathlib.Core.Bool.{Bool, true}
 use mathlib.Core.Path.{_≡_, refl, ap, _∙_}
@@ -15,12 +15,16 @@ use Rattle.capsule.specs.declared.element.EntryRead.{EntryRead}
 use Rattle.capsule.specs.declared.element.EntryRead.the-variants.{Good, Bad}
 use Rattle.capsule.specs.Elements.{element, Parsed, fault, all, passing, parse, countVerdict, settled, elementsIn, written}
 use Rattle.capsule.specs.Entries.{readEntry, entryBytes, entryElement, entryFormat}
-use Rattle.capsule.specs.Capsules.{Capsule, capsule, readCapsule}
+use Rattle.capsule.specs.Capsules.{Capsule, capsule, maxValue, readCapsule}
+use Rattle.capsule.specs.Sound.{Sound, sound-datagram, sound-assign, sound-request, sound-advertise, sound-unknown}
 use Rattle.capsule.proofs.EntryCases as Entry
 use Rattle.capsule.proofs.Parsing.{Step, done, more, parse-step}
 use Rattle.capsule.proofs.ReadFacts.{Taken, is-datagram, is-assign, is-request, is-advertise, is-unknown, read-facts}
+use Rattle.capsule.proofs.ReadLaws.{read-sound, entries-sound}
+use Rattle.capsule_write.specs.Sizes.{maxEntry}
 use Rattle.capsule_write.proofs.Lengths.{entry-most}
-use Rattle.exchange.specs.Handing.{contents}
+use Rattle.capsule_write.proofs.Accepted.{written-most}
+use Rattle.stream.specs.Handing.{contents}
 use Rattle.van_box.specs.Sizes.{answerHead, answersShare}
 
 of-entry : (r : EntryRead) (a : AddressEntry) (n : ℕ) → entryElement r ≡ element a n → r ≡ Good a n
@@ -83,6 +87,13 @@ value-share kind v c (is-request {es} k e) = entries-share true v es e
 value-share kind v c (is-advertise k e) = omega arith
 value-share kind v c (is-unknown k) = omega arith
 
+contents-most : (c : Capsule) → Sound c → length (contents c) ≤ maxValue
+contents-most c (sound-datagram h) = h
+contents-most c (sound-assign r) = omega arith
+contents-most c (sound-request {es} r) = omega (arith, written-most (entryFormat true) maxEntry entry-most es, entries-sound true es r .1)
+contents-most c (sound-advertise r) = omega arith
+contents-most c sound-unknown = omega arith
+
 -- ---- a capsule
 module _ (s : List ℕ) (c : Capsule) (start size : ℕ) (e : readCapsule s ≡ capsule c start size) where
   pub capsule-share : answerHead + length (contents c) ≤ answersShare * size
@@ -93,3 +104,6 @@ module _ (s : List ℕ) (c : Capsule) (start size : ℕ) (e : readCapsule s ≡ 
       let v = take (r .count) (drop start s) in
       let l : length v ≤ r .count = simp length-take (omega arith) in
       omega (arith, value-share (r .kind) v c (r .taken), r .ends, f .starts, a .some)
+
+  pub capsule-most : length (contents c) ≤ maxValue
+  capsule-most = contents-most c (read-sound s c start size e)

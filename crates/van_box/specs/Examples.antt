@@ -1,4 +1,4 @@
--- Records and their answers in the state of a new tunnel, computed.
+-- Records and their answers in the memory of a new tunnel, computed.
 use Prim.Native.Nat.{ℕ}
 use mathlib.Core.Path.{_≡_, refl}
 use mathlib.Core.List.{List, [], _∷_}
@@ -10,6 +10,7 @@ use Rattle.lists.specs.Rules.{soundEntry}
 use Rattle.lists.specs.Words.{entriesOf, rangesOf, soundAddresses, soundRoutes}
 use Rattle.capsule.specs.Elements.{parse, elementsIn}
 use Rattle.capsule.specs.Entries.{readBody, readEntry, entryBytes, entryFollows}
+use Rattle.capsule.specs.Heads.{headOf}
 use Rattle.capsule.specs.Capsules.{capsuleBytes, entriesIn, frameOf, readValue, readCapsule}
 use Rattle.capsule_write.specs.Verdicts.{withRoom}
 use Rattle.policy.specs.Granted.{soundSide}
@@ -18,16 +19,17 @@ use Rattle.table.specs.Load.{planRead}
 use Rattle.table.specs.Rules.{planFault, soundTemplates}
 use Rattle.table.specs.Words.{templatesOf}
 use Rattle.state.specs.State.{stateWords, soundState}
-use Rattle.exchange.specs.Reading.{readingIn}
+use Rattle.stream.specs.Store.{toSkip, soundStore, feedStore}
+use Rattle.stream.specs.Feeding.{keptSize, feedTests}
 use Rattle.template.specs.Datagrams.{opened}
 use Rattle.tunnel.specs.Tunnel.{sendTests, sendVerdict, receiveTests, receiveVerdict}
 use Rattle.van_box.specs.Incoming.{recordSize}
 use Rattle.van_box.specs.Outgoing.{answerBytes}
 use Rattle.van_box.specs.Records.{streamKind, planKind, requestKind, packetKind, datagramKind}
-use Rattle.van_box.specs.Records.{leaving, sentAnswer, receivedAnswer, requestAnswer, planOutcome, capsules, outcome}
+use Rattle.van_box.specs.Records.{Memory, memory, leaving, sentAnswer, receivedAnswer, requestAnswer, planOutcome, stepped, capsules, outcome}
 
-fresh : List ℕ
-fresh = replicate stateWords 0
+fresh : Memory
+fresh = memory (replicate stateWords 0) (replicate keptSize 0)
 
 -- ---- heads
 
@@ -49,17 +51,38 @@ long-answer = refl
 -- a DATAGRAM, and a capsule of another type
 two-capsules : outcome streamKind fresh (0x00 ∷ 0x02 ∷ 0x00 ∷ 0x45 ∷ 0x21 ∷ 0x00 ∷ [])
     ≡ leaving (0x43 ∷ 0x00 ∷ 0x00 ∷ 0x02 ∷ 0x00 ∷ 0x45 ∷ 0x43 ∷ 0x00 ∷ 0x00 ∷ 0x00 ∷ []) fresh
-unfolding outcome capsules readingIn soundState soundSide soundAddresses soundRoutes soundTemplates planFault entriesOf rangesOf templatesOf readCapsule frameOf readNumber readValue fresh
+unfolding outcome capsules stepped feedTests soundState soundSide soundAddresses soundRoutes soundTemplates planFault entriesOf rangesOf templatesOf soundStore toSkip headOf feedStore readCapsule frameOf readNumber readValue fresh
 two-capsules = refl
 
--- an empty request, and a DATAGRAM that is dropped
-refusal-is-last : outcome streamKind fresh (0x02 ∷ 0x00 ∷ 0x00 ∷ 0x00 ∷ []) ≡ leaving (0x43 ∷ 0x06 ∷ 0x00 ∷ 0x00 ∷ []) fresh
-unfolding outcome capsules readingIn soundState soundSide soundAddresses soundRoutes soundTemplates planFault entriesOf rangesOf templatesOf readCapsule frameOf readNumber readValue elementsIn parse fresh
-refusal-is-last = refl
+-- the answers of records one after the other
+streamed : Memory → List (List ℕ) → List (List ℕ)
+streamed m [] = []
+streamed m (s ∷ ss) = outcome streamKind m s .answers ∷ streamed (outcome streamKind m s .left) ss
 
-no-capsule : outcome streamKind fresh [] ≡ leaving (0x43 ∷ 0x01 ∷ 0x00 ∷ 0x00 ∷ []) fresh
-unfolding outcome capsules readingIn soundState soundSide soundAddresses soundRoutes soundTemplates planFault entriesOf rangesOf templatesOf readCapsule frameOf readNumber fresh
-no-capsule = refl
+-- a DATAGRAM that is cut in its length and in its value
+cut-capsule : streamed fresh ((0x00 ∷ 0x40 ∷ []) ∷ (0x02 ∷ 0x00 ∷ []) ∷ (0x45 ∷ []) ∷ [])
+    ≡ (0x43 ∷ 0x01 ∷ 0x00 ∷ 0x00 ∷ []) ∷ (0x43 ∷ 0x01 ∷ 0x00 ∷ 0x00 ∷ []) ∷ (0x43 ∷ 0x00 ∷ 0x00 ∷ 0x02 ∷ 0x00 ∷ 0x45 ∷ []) ∷ []
+unfolding streamed outcome capsules stepped feedTests soundState soundSide soundAddresses soundRoutes soundTemplates planFault entriesOf rangesOf templatesOf soundStore toSkip headOf feedStore readCapsule frameOf readNumber readValue fresh
+cut-capsule = refl
+
+-- no bytes, between capsules and in one
+no-bytes : streamed fresh ([] ∷ (0x00 ∷ []) ∷ [] ∷ (0x00 ∷ []) ∷ [] ∷ [])
+    ≡ (0x43 ∷ 0x00 ∷ 0x00 ∷ 0x00 ∷ []) ∷ (0x43 ∷ 0x01 ∷ 0x00 ∷ 0x00 ∷ []) ∷ (0x43 ∷ 0x01 ∷ 0x00 ∷ 0x00 ∷ []) ∷ (0x43 ∷ 0x00 ∷ 0x00 ∷ 0x00 ∷ [])
+    ∷ (0x43 ∷ 0x00 ∷ 0x00 ∷ 0x00 ∷ []) ∷ []
+unfolding streamed outcome capsules stepped feedTests soundState soundSide soundAddresses soundRoutes soundTemplates planFault entriesOf rangesOf templatesOf soundStore toSkip headOf feedStore readCapsule frameOf readNumber readValue fresh
+no-bytes = refl
+
+-- a capsule of another type over two records; the first byte of a third capsule follows it
+cut-skipped : streamed fresh ((0x21 ∷ 0x03 ∷ 0x61 ∷ []) ∷ (0x62 ∷ 0x63 ∷ 0x00 ∷ []) ∷ [])
+    ≡ (0x43 ∷ 0x01 ∷ 0x00 ∷ 0x00 ∷ []) ∷ (0x43 ∷ 0x00 ∷ 0x00 ∷ 0x00 ∷ 0x43 ∷ 0x01 ∷ 0x00 ∷ 0x00 ∷ []) ∷ []
+unfolding streamed outcome capsules stepped feedTests soundState soundSide soundAddresses soundRoutes soundTemplates planFault entriesOf rangesOf templatesOf soundStore toSkip headOf feedStore readCapsule frameOf readNumber readValue fresh
+cut-skipped = refl
+
+-- an empty request, and a DATAGRAM that is dropped; the refusal is repeated, also where no bytes are given
+refusal-repeated : streamed fresh ((0x02 ∷ 0x00 ∷ 0x00 ∷ 0x00 ∷ []) ∷ [] ∷ (0x00 ∷ 0x00 ∷ []) ∷ [])
+    ≡ (0x43 ∷ 0x06 ∷ 0x00 ∷ 0x00 ∷ []) ∷ (0x43 ∷ 0x06 ∷ 0x00 ∷ 0x00 ∷ []) ∷ (0x43 ∷ 0x06 ∷ 0x00 ∷ 0x00 ∷ []) ∷ []
+unfolding streamed outcome capsules stepped feedTests soundState soundSide soundAddresses soundRoutes soundTemplates planFault entriesOf rangesOf templatesOf soundStore toSkip headOf feedStore readCapsule frameOf readNumber readValue elementsIn parse fresh
+refusal-repeated = refl
 
 -- ---- the other kinds
 

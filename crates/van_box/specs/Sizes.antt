@@ -27,6 +27,7 @@ answerRoom = answerHead + capsuleRoom
 abbrev pub answersShare : ℕ
 answersShare = 4
 
--- the room in which a record is answered: its answers, and the longest one, which is tried behind them
+-- the room in which a record is answered: its answers, of which the first may be to a capsule that began in an earlier record, and the longest one,
+-- which is tried behind them
 abbrev pub recordRoom : ℕ
-recordRoom = answersShare * maxRecord + answerRoom
+recordRoom = answersShare * maxRecord + 2 * answerRoom

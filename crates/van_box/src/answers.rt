@@ -5,35 +5,44 @@ use crate::outgoing::Output;
 use crate::outgoing::put_answer;
 use crate::outgoing::put_unknown;
 use answer::Answer;
+use answer::Refusal;
 use answer::Verdict;
 use state::STATE_WORDS;
+use stream::Call;
+use stream::KEPT_SIZE;
+ghost use mathlib.Core.Path.{_≡_};
 ghost use Prim.Native.Nat.{_+_, _≤_};
 ghost use lib.ListN.{length};
+ghost use Rattle.state.specs.State.{stateWords};
 ghost use Rattle.van_box.specs.Sizes.{maxRecord, answerRoom, recordRoom};
 ghost use Rattle.van_box.specs.Outgoing.{Appends};
 ghost use Rattle.van_box.specs.Records.{sentAnswer, receivedAnswer, requestAnswer, planOutcome, assignOutcome, advertiseOutcome};
-ghost use Rattle.van_box.specs.Records.{streamOutcome, outcome, Answers, AnswersCapsule};
+ghost use Rattle.van_box.specs.Records.{memory, callAnswer, isHanded, streamOutcome, outcome, Answers, AnswersPiece};
 
-// The output after a capsule, behind which the next one stands.
+// The output after a call, how many of the bytes it took, and whether it handed a capsule out.
 pub struct Stepped {
     pub output: Output,
-    pub next: usize,
+    pub taken: usize,
+    pub handed: bool,
 }
 
 // The answers to a record.
 pub(crate) fn answer_record(
     state: &mut [u64; STATE_WORDS],
+    kept: &mut [u8; KEPT_SIZE],
     kind: u8,
     body: &[u8],
     out: &mut [u8],
     output: Output,
 ) -> Output
+    requires { ⌜ length (now state) ≡ stateWords ⌝ }
     requires { ⌜ output .used + recordRoom ≤ length (now out) ⌝ }
     requires { ⌜ length (now body) ≤ maxRecord ⌝ }
-    ensures { λ r. ⌜ Answers (outcome kind (now (state .entry)) (now (body .entry))) output (now (out .entry)) r (now (state .exit)) (now (out .exit)) ⌝ }
+    ensures { λ r. ⌜ Answers (outcome kind (memory (now (state .entry)) (now (kept .entry))) (now (body .entry))) output (now (out .entry)) r
+        (memory (now (state .exit)) (now (kept .exit))) (now (out .exit)) ⌝ }
 {
     if kind == b'C' {
-        return stream_record(state, body, out, output);
+        return stream_record(state, kept, body, out, output);
     }
     if kind == b'P' {
         return plan_record(state, body, out, output);
@@ -143,26 +152,29 @@ fn request_record(value: &[u8], out: &mut [u8], output: Output) -> Output
     put_answer(output, out, b'Q', requested)
 }
 
-// Bytes of the stream: every capsule gets an answer, and a refusal is the last one. It leaves its place, so that no bytes are passed.
+// Bytes of the stream: every capsule that comes to its end gets an answer, and any other answer is the last one.
 fn stream_record(
     state: &mut [u64; STATE_WORDS],
+    kept: &mut [u8; KEPT_SIZE],
     bytes: &[u8],
     out: &mut [u8],
     output: Output,
 ) -> Output
+    requires { ⌜ length (now state) ≡ stateWords ⌝ }
     requires { ⌜ output .used + recordRoom ≤ length (now out) ⌝ }
     requires { ⌜ length (now bytes) ≤ maxRecord ⌝ }
-    ensures { λ r. ⌜ Answers (streamOutcome (now (state .entry)) (now (bytes .entry))) output (now (out .entry)) r (now (state .exit)) (now (out .exit)) ⌝ }
+    ensures { λ r. ⌜ Answers (streamOutcome (memory (now (state .entry)) (now (kept .entry))) (now (bytes .entry))) output (now (out .entry)) r
+        (memory (now (state .exit)) (now (kept .exit))) (now (out .exit)) ⌝ }
 {
     let mut waiting = output;
     let mut at: usize = 0;
     loop {
-        let step = capsule_record(state, bytes, at, out, waiting);
-        let next = step.next;
+        let step = piece_record(state, kept, &bytes[at..], out, waiting);
         waiting = step.output;
-        if next <= at {
+        if !step.handed {
             return waiting;
         }
+        let next = at + step.taken;
         if bytes.len() <= next {
             return waiting;
         }
@@ -170,23 +182,49 @@ fn stream_record(
     }
 }
 
-// The capsule at a place of the stream's bytes.
-fn capsule_record(
+// The bytes up to the end of a capsule.
+fn piece_record(
     state: &mut [u64; STATE_WORDS],
+    kept: &mut [u8; KEPT_SIZE],
     bytes: &[u8],
-    at: usize,
     out: &mut [u8],
     output: Output,
 ) -> Stepped
     requires { ⌜ output .used + answerRoom ≤ length (now out) ⌝ }
-    ensures { λ r. ⌜ AnswersCapsule (now (state .entry)) (now (bytes .entry)) at output (now (out .entry)) r (now (state .exit)) (now (out .exit)) ⌝ }
+    ensures { λ r. ⌜ AnswersPiece (memory (now (state .entry)) (now (kept .entry))) (now (bytes .entry)) output (now (out .entry)) r
+        (memory (now (state .exit)) (now (kept .exit))) (now (out .exit)) ⌝ }
 {
     let start = output.used + ANSWER_HEAD;
-    let read = exchange::next_capsule(state, bytes, at, &mut out[start..]);
-    let answer = read.answer;
+    let piece = stream::next_capsule(state, kept, bytes, &mut out[start..]);
+    let call = piece.call;
+    let answer = call_answer(call);
     let answered = put_answer(output, out, b'C', answer);
     Stepped {
         output: answered,
-        next: read.next,
+        taken: piece.taken,
+        handed: is_handed(call),
+    }
+}
+
+// The answer to what a call says: 1 while a capsule is open.
+fn call_answer(call: Call) -> Answer
+    ensures { λ r. ⌜ r ≡ callAnswer call ⌝ }
+{
+    match call {
+        Call::Handed { kind: _, length } => Answer::Done(length),
+        Call::Between => Answer::Done(0),
+        Call::Wait => Answer::Refused(Refusal::Incomplete),
+        Call::Stopped(why) => Answer::Refused(why),
+    }
+}
+
+fn is_handed(call: Call) -> bool
+    ensures { λ r. ⌜ r ≡ isHanded call ⌝ }
+{
+    match call {
+        Call::Handed { kind: _, length: _ } => true,
+        Call::Between => false,
+        Call::Wait => false,
+        Call::Stopped(_) => false,
     }
 }

@@ -1,6 +1,6 @@
 // The box as a filter: records on standard input, their answers on standard output (README, "The box as a filter").
-// The program only moves bytes: what a record answers comes from `exchange`, `state` and `tunnel`. The state lives across records in
-// words that are lent.
+// The program only moves bytes: what a record answers comes from `exchange`, `state`, `stream` and `tunnel`. The state and the bytes of an unfinished
+// capsule live across records in memory that is lent.
 // Answers are gathered and written before each read, so that none waits for more input. It ends where the input does, or where the output
 // cannot be written.
 mod answers;
@@ -18,10 +18,12 @@ use outgoing::flush;
 use outgoing::put_unknown;
 use outgoing::with_room;
 use state::STATE_WORDS;
+use stream::KEPT_SIZE;
 ghost use Prim.Native.Nat.{_≤_};
 ghost use lib.ListN.{length};
 ghost use Rattle.van_box.specs.Sizes.{inputRoom, answerHead, recordRoom};
-ghost use Rattle.van_box.specs.Passing.{AnswersAll, Turns};
+ghost use Rattle.van_box.specs.Records.{memory};
+ghost use Rattle.van_box.specs.Passing.{Sound, AnswersAll, Turns};
 
 // Two records of the most bytes fit, so that what is held of one never fills the input.
 const INPUT: usize = 131072;
@@ -46,8 +48,9 @@ pub struct Answered {
 fn main() {
     let mut input = [0u8; INPUT];
     let mut out = [0u8; OUTPUT];
-    // All 0: no grants, no templates.
+    // All 0: no grants, no templates, no capsule open.
     let mut state = [0u64; STATE_WORDS];
+    let mut kept = [0u8; KEPT_SIZE];
     let mut now = Between {
         held: 0,
         open: true,
@@ -58,7 +61,7 @@ fn main() {
         if !now.open {
             break;
         }
-        now = turn(now, &mut state, &mut input, &mut out);
+        now = turn(now, &mut state, &mut kept, &mut input, &mut out);
         turns -= 1;
     }
 }
@@ -67,24 +70,30 @@ fn main() {
 fn turn(
     before: Between,
     state: &mut [u64; STATE_WORDS],
+    kept: &mut [u8; KEPT_SIZE],
     input: &mut [u8; INPUT],
     out: &mut [u8; OUTPUT],
 ) -> Between
     requires { ⌜ before .held ≤ inputRoom ⌝ }
+    requires { ⌜ Sound (memory (now state) (now kept)) ⌝ }
     ensures { λ r. ⌜ r .held ≤ inputRoom ⌝ }
+    ensures { λ _. ⌜ Sound (memory (now (state .exit)) (now (kept .exit))) ⌝ }
 {
-    answer_read(before, state, input, out)
+    answer_read(before, state, kept, input, out)
 }
 
 fn answer_read(
     before: Between,
     state: &mut [u64; STATE_WORDS],
+    kept: &mut [u8; KEPT_SIZE],
     input: &mut [u8],
     out: &mut [u8],
 ) -> Between
     requires { ⌜ before .held ≤ length (now input) ⌝ }
     requires { ⌜ recordRoom ≤ length (now out) ⌝ }
-    ensures { λ r. ⌜ Turns (now (state .entry)) before (now (input .entry)) r (now (state .exit)) (now (input .exit)) ⌝ }
+    requires { ⌜ Sound (memory (now state) (now kept)) ⌝ }
+    ensures { λ r. ⌜ Turns (memory (now (state .entry)) (now (kept .entry))) before (now (input .entry)) r
+        (memory (now (state .exit)) (now (kept .exit))) (now (input .exit)) ⌝ }
 {
     let held = before.held;
     let end = fill(input, held);
@@ -95,7 +104,7 @@ fn answer_read(
             open: false,
         };
     }
-    let after = answer_records(state, &input[..end], out);
+    let after = answer_records(state, kept, &input[..end], out);
     let output = flush(after.output, out);
     let at = after.at;
     let left = keep(input, at, end);
@@ -120,9 +129,16 @@ fn end_of_input(held: usize, out: &mut [u8])
 }
 
 // Answers every whole record of some bytes.
-fn answer_records(state: &mut [u64; STATE_WORDS], bytes: &[u8], out: &mut [u8]) -> Answered
+fn answer_records(
+    state: &mut [u64; STATE_WORDS],
+    kept: &mut [u8; KEPT_SIZE],
+    bytes: &[u8],
+    out: &mut [u8],
+) -> Answered
     requires { ⌜ recordRoom ≤ length (now out) ⌝ }
-    ensures { λ r. ⌜ AnswersAll (now (state .entry)) (now (bytes .entry)) r (now (state .exit)) (now (out .exit)) ⌝ }
+    requires { ⌜ Sound (memory (now state) (now kept)) ⌝ }
+    ensures { λ r. ⌜ AnswersAll (memory (now (state .entry)) (now (kept .entry))) (now (bytes .entry)) r
+        (memory (now (state .exit)) (now (kept .exit))) (now (out .exit)) ⌝ }
 {
     let mut output = Output {
         used: 0,
@@ -138,7 +154,7 @@ fn answer_records(state: &mut [u64; STATE_WORDS], bytes: &[u8], out: &mut [u8]) 
         let start = at + RECORD_HEAD;
         let end = at + n;
         let room = with_room(output, out);
-        output = answer_record(state, kind, &bytes[start..end], out, room);
+        output = answer_record(state, kept, kind, &bytes[start..end], out, room);
         at = end;
     }
     Answered { output, at }

@@ -20,8 +20,9 @@ const ANSWER_ROOM: usize = ANSWER_HEAD + CAPSULE_ROOM;
 // head makes up for the head of its answer.
 const ANSWERS_SHARE: usize = 4;
 
-// The room in which a record is answered: its answers, and the longest one, which is tried behind them.
-pub(crate) const RECORD_ROOM: usize = ANSWERS_SHARE * MAX_RECORD + ANSWER_ROOM;
+// The room in which a record is answered: its answers, of which the first may be to a capsule that began in an earlier record, and the longest one, which
+// is tried behind them.
+pub(crate) const RECORD_ROOM: usize = ANSWERS_SHARE * MAX_RECORD + 2 * ANSWER_ROOM;
 
 // How many bytes of answers wait at the front of the output, and whether it can be written.
 pub struct Output {

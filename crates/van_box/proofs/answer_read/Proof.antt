@@ -2,6 +2,7 @@
 use mathlib.Core.Path.{sym}
 use native.Mathlib.Omega.{arith}
 use lib.Seq.{length-take-le}
+use Rattle.van_box.specs.Records.{memory}
 use Rattle.van_box.proofs.Passing.{turn-ended, turned}
 use borrow.Author.Needs.{needs}
 use Rattle.van_box.proofs.answer_read.Statement.{statement}
@@ -20,13 +21,15 @@ same-length-2 : tie.Need-same-length-2
 same-length-2 c = search needs
 
 returns : tie.Need-returns
-returns c = turn-ended _ _ _ _
+returns c =
+    let s = c .before .before .before .before .before .before .before .before .before .before .before in
+    turn-ended _ _ _ (s .pre .1 .1) _
 
 slice-reshare-prefix-answer-records : tie.Need-slice-reshare-prefix-answer-records
 slice-reshare-prefix-answer-records c = search needs
 
 slice-aggregate-answer-records : tie.Need-slice-aggregate-answer-records
-slice-aggregate-answer-records c = sym (length-take-le _ _ (c .before .before .before .before .before .fill .ensures .within))
+slice-aggregate-answer-records c = sym (length-take-le _ _ (c .before .before .before .before .before .before .fill .ensures .within))
 
 answer-records-requires : tie.Need-answer-records-requires
 answer-records-requires c κs = search needs
@@ -37,7 +40,7 @@ flush-requires c κs = search needs
 keep-requires : tie.Need-keep-requires
 keep-requires c κs =
     let a = c .before .before .before .before .before .before .before in
-    let f = a .before .before .before .before .before .before .before .fill in
+    let f = a .before .before .before .before .before .before .before .before .fill in
     (omega (arith, length-take-le (f .result) (f .last .0) (f .ensures .within), a .answer-records .ensures .records .within), f .ensures .within)
 
 same-length-3 : tie.Need-same-length-3
@@ -51,9 +54,9 @@ returns-2 c =
     let k = c .before .before .keep in
     let o = c .before .before .before .before .before .before in
     let a = o .before .before .before .before in
-    let f = a .before .before .before .before .before .before .before in
+    let f = a .before .before .before .before .before .before .before .before in
     let s = f .before .before .before .before in
-    turned (s .args .state .now) (s .args .before) (s .args .input .now) (f .fill .ensures) (a .answer-records .ensures) (o .flush .ensures) (k .ensures)
+    turned (memory (s .args .state .now) (s .args .kept .now)) (s .args .before) (s .args .input .now) (f .fill .ensures) (a .answer-records .ensures) (o .flush .ensures) (k .ensures)
     (k .kept .0)
 
 pub answer-read-spec : {M : Type 1} → statement M

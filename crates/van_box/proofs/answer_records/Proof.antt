@@ -1,6 +1,8 @@
--- The records up to the place are answered, and the place grows by one with each turn (`Passing`).
+-- The records up to the place are answered, and the place grows by one with each turn (`Passing`); each leaves a sound memory sound.
 use Rattle.van_box.proofs.Passing.{passing-none, passing-more, size-none, closed}
-use Rattle.van_box.specs.Passing.{Passing}
+use Rattle.van_box.proofs.SoundStates.{passed-sound}
+use Rattle.van_box.specs.Records.{memory}
+use Rattle.van_box.specs.Passing.{Sound, Passing}
 use Prim.Native.Nat.{_≤_, _-_}
 use mathlib.Core.Path.{_≡_, refl, _∙_}
 use native.Mathlib.Omega.{arith}
@@ -11,14 +13,20 @@ use Rattle.van_box.proofs.answer_records.Statement.{statement}
 use Rattle.van_box.proofs.answer_records.Tie as tie
 
 abbrev Inv-loop : tie.InvT-loop
-Inv-loop state₀ bytes out₀ output₀ at₀ state out output at =
-    (Passing state₀ bytes output at state out) × (recordRoom ≤ length out) × (length out ≡ length out₀)
+Inv-loop state₀ kept₀ bytes out₀ output₀ at₀ state kept out output at =
+    (Passing (memory state₀ kept₀) bytes output at (memory state kept) out)
+    × (recordRoom ≤ length out)
+    × (length out ≡ length out₀)
+    × (Sound (memory state kept))
 
 abbrev μ-loop : tie.MeasureT-loop
-μ-loop state₀ bytes out₀ output₀ at₀ state out output at = length bytes - at
+μ-loop state₀ kept₀ bytes out₀ output₀ at₀ state kept out output at = length bytes - at
 
 loop-holds : tie.Need-loop-holds Inv-loop μ-loop
-loop-holds c = let s = c .before .before in (passing-none (s .args .state .now) (s .args .bytes .now) _ (s .args .out .now) refl, s .pre, refl)
+loop-holds c =
+    let s = c .before .before in
+    let m = memory (s .args .state .now) (s .args .kept .now) in
+    (passing-none m (s .args .bytes .now) _ (s .args .out .now) refl, s .pre .0, refl, s .pre .1)
 
 record-size-requires : tie.Need-record-size-requires Inv-loop μ-loop
 record-size-requires c κs = search needs
@@ -45,7 +53,9 @@ part-answer-record-end : tie.Need-part-answer-record-end Inv-loop μ-loop
 part-answer-record-end c = search needs
 
 answer-record-requires : tie.Need-answer-record-requires Inv-loop μ-loop
-answer-record-requires c κs = search needs
+answer-record-requires c κs =
+    let i = c .before .before .before .before .before .before .before .before .before .before .before .before .loop .inv in
+    (i .3 .lent .words, (search needs, search needs))
 
 loop-less : tie.Need-loop-less Inv-loop μ-loop
 loop-less c = search needs
@@ -53,26 +63,32 @@ loop-less c = search needs
 loop-again : tie.Need-loop-again Inv-loop μ-loop
 loop-again c =
     let k = c .before .before .answer-record in
-    let r = c .before .before .before .before .before .before .before .before in
+    let r = c .before .before .before .before .before .before .before .before .before in
     let n = r .before .before .before .before in
     let w = r .with-room in
-    let i = n .before .before .loop .inv in (
-      passing-more (i .0) (n .record-size .ensures) (r .before .before .before .if1 .left) (w .ensures) (k .ensures),
-      omega (arith, k .kept .1 .1 .1 .0, w .kept .1 .0, i .1),
-      k .kept .1 .1 .1 .0 ∙ w .kept .1 .0 ∙ i .2,
+    let l = n .before .before in
+    let s = l .before .before .before in
+    let i = l .loop .inv in
+    let p = passing-more (i .0) (n .record-size .ensures) (r .before .before .before .if1 .left) (w .ensures) (k .ensures) in (
+      p,
+      omega (arith, k .kept .1 .1 .1 .1 .0, w .kept .1 .0, i .1),
+      k .kept .1 .1 .1 .1 .0 ∙ w .kept .1 .0 ∙ i .2,
+      passed-sound (λ j. omega (arith, l .before .before .shared-slice-known .given j)) (s .pre .1) (p .passed),
     )
 
 same-length : tie.Need-same-length Inv-loop μ-loop
 same-length c = search needs
 
 returns : tie.Need-returns Inv-loop μ-loop
-returns c = record { records = c .before .loop .inv .0; all = closed _ (c .loop-test .left) }
+returns c = let i = c .before .loop .inv in record { records = i .0; all = closed _ (c .loop-test .left); sound = i .3 }
 
 same-length-2 : tie.Need-same-length-2 Inv-loop μ-loop
 same-length-2 c = search needs
 
 returns-2 : tie.Need-returns-2 Inv-loop μ-loop
-returns-2 c = record { records = c .before .before .before .loop .inv .0; all = λ e. size-none _ _ (c .before .record-size .ensures) (c .if1 .taken) }
+returns-2 c =
+    let i = c .before .before .before .loop .inv in
+    record { records = i .0; all = λ e. size-none _ _ (c .before .record-size .ensures) (c .if1 .taken); sound = i .3 }
 
 pub answer-records-spec : {M : Type 1} → statement M
 answer-records-spec =

@@ -1,18 +1,21 @@
--- What is held fits the input; the measure is the number of turns that are left.
+-- What is held fits the input, and the memory keeps its rules; the measure is the number of turns that are left.
 use Prim.Native.Nat.{_≤_}
 use Rattle.van_box.specs.Sizes.{inputRoom}
+use Rattle.van_box.specs.Records.{memory}
+use Rattle.van_box.specs.Passing.{Sound}
+use Rattle.van_box.proofs.SoundStates.{fresh}
 use borrow.Author.Needs.{needs}
 use Rattle.van_box.proofs.main.Statement.{statement}
 use Rattle.van_box.proofs.main.Tie as tie
 
 abbrev Inv-loop : tie.InvT-loop
-Inv-loop input₀ out₀ state₀ now₀ turns₀ input out state now turns = now .held ≤ inputRoom
+Inv-loop input₀ out₀ state₀ kept₀ now₀ turns₀ input out state kept now turns = (now .held ≤ inputRoom) × (Sound (memory state kept))
 
 abbrev μ-loop : tie.MeasureT-loop
-μ-loop input₀ out₀ state₀ now₀ turns₀ input out state now turns = turns
+μ-loop input₀ out₀ state₀ kept₀ now₀ turns₀ input out state kept now turns = turns
 
 loop-holds : tie.Need-loop-holds Inv-loop μ-loop
-loop-holds c = search needs
+loop-holds c = (search needs, fresh)
 
 turn-requires : tie.Need-turn-requires Inv-loop μ-loop
 turn-requires c κs = search needs

@@ -1,7 +1,8 @@
 -- Each test says the kind, and so which outcome it is.
 use native.Mathlib.Omega.{arith}
+use Rattle.van_box.specs.Records.{memory}
 use Rattle.van_box.proofs.Outcomes.{outcome-stream, outcome-plan, outcome-assign, outcome-advertise, outcome-request}
-use Rattle.van_box.proofs.Outcomes.{outcome-packet, outcome-datagram, outcome-unknown, answers-as, answers-alone}
+use Rattle.van_box.proofs.Outcomes.{outcome-packet, outcome-datagram, outcome-unknown, answers-as, answers-beside, answers-alone}
 use borrow.Author.Needs.{needs}
 use Rattle.van_box.proofs.answers.answer_record.Statement.{statement}
 use Rattle.van_box.proofs.answers.answer_record.Tie as tie
@@ -14,10 +15,10 @@ same-length c = search needs
 
 returns : tie.Need-returns
 returns c =
-    let s = c .before .before .before .before .before .before .before .before in
+    let s = c .before .before .before .before .before .before .before .before .before in
     answers-as
-    (outcome-stream (s .args .kind) (s .args .state .now) (s .args .body .now)
-    (omega (arith, c .before .before .before .before .before .if1 .taken)))
+    (outcome-stream (s .args .kind) (memory (s .args .state .now) (s .args .kept .now)) (s .args .body .now)
+    (omega (arith, c .before .before .before .before .before .before .if1 .taken)))
     (c .before .before .stream-record .ensures)
 
 plan-record-requires : tie.Need-plan-record-requires
@@ -29,8 +30,8 @@ same-length-2 c = search needs
 returns-2 : tie.Need-returns-2
 returns-2 c =
     let s = c .before .before .before .before .before .before .before .before .before in
-    answers-as
-    (outcome-plan (s .args .kind) (s .args .state .now) (s .args .body .now)
+    answers-beside
+    (outcome-plan (s .args .kind) (memory (s .args .state .now) (s .args .kept .now)) (s .args .body .now)
     (omega (arith, c .before .before .before .before .before .if2 .taken)))
     (c .before .before .plan-record .ensures)
 
@@ -43,8 +44,8 @@ same-length-3 c = search needs
 returns-3 : tie.Need-returns-3
 returns-3 c =
     let s = c .before .before .before .before .before .before .before .before .before .before in
-    answers-as
-    (outcome-assign (s .args .kind) (s .args .state .now) (s .args .body .now)
+    answers-beside
+    (outcome-assign (s .args .kind) (memory (s .args .state .now) (s .args .kept .now)) (s .args .body .now)
     (omega (arith, c .before .before .before .before .before .if3 .taken)))
     (c .before .before .assign-record .ensures)
 
@@ -57,8 +58,8 @@ same-length-4 c = search needs
 returns-4 : tie.Need-returns-4
 returns-4 c =
     let s = c .before .before .before .before .before .before .before .before .before .before .before in
-    answers-as
-    (outcome-advertise (s .args .kind) (s .args .state .now) (s .args .body .now)
+    answers-beside
+    (outcome-advertise (s .args .kind) (memory (s .args .state .now) (s .args .kept .now)) (s .args .body .now)
     (omega (arith, c .before .before .before .before .before .if4 .taken)))
     (c .before .before .advertise-record .ensures)
 
@@ -72,7 +73,7 @@ returns-5 : tie.Need-returns-5
 returns-5 c =
     let s = c .before .before .before .before .before .before .before .before .before .before .before in
     answers-alone
-    (outcome-request (s .args .kind) (s .args .state .now) (s .args .body .now)
+    (outcome-request (s .args .kind) (memory (s .args .state .now) (s .args .kept .now)) (s .args .body .now)
     (omega (arith, c .before .before .before .before .if5 .taken)))
     (c .before .before .request-record .ensures)
 
@@ -86,7 +87,7 @@ returns-6 : tie.Need-returns-6
 returns-6 c =
     let s = c .before .before .before .before .before .before .before .before .before .before .before .before .before in
     answers-alone
-    (outcome-packet (s .args .kind) (s .args .state .now) (s .args .body .now)
+    (outcome-packet (s .args .kind) (memory (s .args .state .now) (s .args .kept .now)) (s .args .body .now)
     (omega (arith, c .before .before .before .before .before .if6 .taken)))
     (c .before .before .packet-record .ensures)
 
@@ -100,7 +101,7 @@ returns-7 : tie.Need-returns-7
 returns-7 c =
     let s = c .before .before .before .before .before .before .before .before .before .before .before .before .before .before in
     answers-alone
-    (outcome-datagram (s .args .kind) (s .args .state .now) (s .args .body .now)
+    (outcome-datagram (s .args .kind) (memory (s .args .state .now) (s .args .kept .now)) (s .args .body .now)
     (omega (arith, c .before .before .before .before .before .if7 .taken)))
     (c .before .before .datagram-record .ensures)
 
@@ -116,7 +117,7 @@ returns-8 c =
     let h = i .before .before .before .before in
     let s = h .before .before .before .before .before in
     answers-alone
-    (outcome-unknown (s .args .kind) (s .args .state .now) (s .args .body .now) (h .before .before .if1 .left) (h .before .if2 .left) (h .if3 .left)
+    (outcome-unknown (s .args .kind) (memory (s .args .state .now) (s .args .kept .now)) (s .args .body .now) (h .before .before .if1 .left) (h .before .if2 .left) (h .if3 .left)
     (i .before .before .before .if4 .left) (i .before .before .if5 .left) (i .before .if6 .left) (i .if7 .left))
     (c .before .before .put-unknown .ensures)
 
