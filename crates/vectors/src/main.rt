@@ -1,6 +1,7 @@
 // Runs the numbers of RFC 9000, appendix A.1, and the drivers' examples through the box, and writes what came out, to be compared with the
 // file `stdout`.
 mod packet; // packet.rt: sending and receiving
+mod pieces; // pieces.rt: the stream in pieces
 mod plan_file; // plan_file.rt: plan files
 
 use answer::Verdict;
@@ -10,6 +11,7 @@ use varint::NumberRead;
 fn main() {
     numbers();
     capsules();
+    pieces::pieces();
     packet::packets();
     plan_file::plans();
 }
