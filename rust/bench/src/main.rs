@@ -5,16 +5,16 @@
 
 use std::hint::black_box;
 use std::time::{Duration, Instant};
-use whapirohi_differential::subject::Subject;
+use whapirohi_differential::subject::{Lent, Subject};
 use whapirohi_differential::words::{mirrored, state_of};
 use whapirohi_reference::list::{MAX_ADDRESSES, MAX_RANGES};
 use whapirohi_reference::packet::{complete, fold, put_word, seed, sum, MAX_PACKET};
 use whapirohi_reference::plan::MAX_TEMPLATES;
 use whapirohi_reference::{
     receive, send, write_assign, write_datagram, write_routes, AddressEntry, AddressList, Checksum, ContextId, Grants,
-    List, Plan, RequestId, RouteList, RouteRange, Segment, Template,
+    List, Piece, Plan, RequestId, RouteList, RouteRange, Segment, Stream, Template,
 };
-use whapirohi_tunnel::{State, ADDRESS_WORDS, CAPSULE_ROOM, RECEIVE_ROOM, SEND_ROOM};
+use whapirohi_tunnel::{State, ADDRESS_WORDS, CAPSULE_ROOM, FEED_ROOM, KEPT_SIZE, RECEIVE_ROOM, SEND_ROOM};
 
 #[cfg(feature = "library")]
 use whapirohi_differential::subject::Library as Proved;
@@ -62,6 +62,17 @@ fn main() {
     for (lists, grants) in [("1", grants(1, 1)), ("full", grants(MAX_ADDRESSES, MAX_RANGES))] {
         capsule_rows(lists, &grants);
     }
+    println!("\nA stream of {STREAM_CAPSULES} capsules in pieces, microseconds a stream; both test the whole state in every call.\n");
+    println!("| capsules | bytes each | pieces of | lists | proved | Rust | ratio |");
+    println!("|---|---:|---:|---|---:|---:|---:|");
+    for (lists, grants) in [("1", grants(1, 1)), ("full", grants(MAX_ADDRESSES, MAX_RANGES))] {
+        stream_rows(lists, &grants, "DATAGRAM", &datagram_capsule(1000));
+        stream_rows(lists, &grants, "ROUTE_ADVERTISEMENT", &routes_capsule(29));
+    }
+    println!("\nOne DATAGRAM capsule in pieces of 1 byte, microseconds; what 4,000 bytes take is a multiple of what 1,000 take.\n");
+    println!("| | 4,000 bytes | 1,000 bytes | quotient |");
+    println!("|---|---:|---:|---:|");
+    growth_rows(&one);
 }
 
 /// Lists of which the last elements match the packet; the given lists are as long and match nothing.
@@ -204,6 +215,109 @@ fn capsule_rows(lists: &str, held: &Grants) {
     }
 }
 
+const STREAM_CAPSULES: usize = 64;
+
+/// A DATAGRAM capsule of so many bytes in all; its length takes 2.
+fn datagram_capsule(size: usize) -> Vec<u8> {
+    let mut out = vec![0; CAPSULE_ROOM];
+    let value: Vec<u8> = (0..size - 3).map(|n| (n * 7 + 3) as u8).collect();
+    let length = write_datagram(&value, &mut out).unwrap();
+    assert_eq!(length, size);
+    out[..length].to_vec()
+}
+
+/// A ROUTE_ADVERTISEMENT of so many IPv6 ranges, 34 bytes each.
+fn routes_capsule(count: usize) -> Vec<u8> {
+    let mut out = vec![0; CAPSULE_ROOM];
+    let list = RouteList { count, ..ipv6_lists().received_routes };
+    let length = write_routes(&list, &mut out).unwrap();
+    out[..length].to_vec()
+}
+
+/// A host that hands in pieces of one size, and again what a call leaves; how many capsules came to their end.
+struct Host {
+    lent: Lent,
+}
+
+struct RustHost {
+    grants: Grants,
+    plan: Plan,
+    stream: Stream,
+    out: Vec<u8>,
+}
+
+impl Host {
+    fn new(grants: &Grants) -> Host {
+        let state = state_of(grants, &Plan::default());
+        Host { lent: Lent { state, kept: [0; KEPT_SIZE], out: vec![0; FEED_ROOM], requested: [0; ADDRESS_WORDS] } }
+    }
+
+    fn feed(&mut self, bytes: &[u8], size: usize) -> usize {
+        let mut ended = 0;
+        for mut rest in bytes.chunks(size) {
+            while !rest.is_empty() {
+                let piece = Proved.feed(black_box(&mut self.lent), black_box(rest));
+                if piece.number > 1 {
+                    return 0;
+                }
+                rest = &rest[piece.taken as usize..];
+                ended += piece.handed as usize;
+            }
+        }
+        ended
+    }
+}
+
+impl RustHost {
+    fn new(grants: &Grants) -> RustHost {
+        RustHost { grants: *grants, plan: Plan::default(), stream: Stream::default(), out: vec![0; FEED_ROOM] }
+    }
+
+    fn feed(&mut self, bytes: &[u8], size: usize) -> usize {
+        let mut ended = 0;
+        for mut rest in bytes.chunks(size) {
+            while !rest.is_empty() {
+                let RustHost { grants, plan, stream, out } = black_box(&mut *self);
+                match stream.feed(grants, plan, black_box(rest), out) {
+                    Ok(Piece::Ended(_, taken)) => {
+                        rest = &rest[taken..];
+                        ended += 1;
+                    }
+                    Ok(_) => break,
+                    Err(_) => return 0,
+                }
+            }
+        }
+        ended
+    }
+}
+
+fn stream_rows(lists: &str, held: &Grants, name: &str, capsule: &[u8]) {
+    let bytes = capsule.repeat(STREAM_CAPSULES);
+    for (pieces, size) in [("whole", bytes.len()), ("1,400", 1400), ("100", 100), ("1", 1)] {
+        let (mut proved, mut rust) = (Host::new(held), RustHost::new(held));
+        assert_eq!(proved.feed(&bytes, size), STREAM_CAPSULES);
+        assert_eq!(rust.feed(&bytes, size), STREAM_CAPSULES);
+        assert_eq!(proved.lent.state, state_of(&rust.grants, &rust.plan));
+        assert_eq!(proved.lent.out, rust.out);
+        let (proved, rust, ratio) = take_turns(|| proved.feed(&bytes, size), || rust.feed(&bytes, size));
+        let (proved, rust) = (proved / 1e3, rust / 1e3);
+        println!("| {name} | {} | {pieces} | {lists} | {proved:.1} | {rust:.1} | {ratio:.2} |", capsule.len());
+    }
+}
+
+fn growth_rows(held: &Grants) {
+    let (long, short) = (datagram_capsule(4000), datagram_capsule(1000));
+    let (mut first, mut second) = (Host::new(held), Host::new(held));
+    growth_row("proved", take_turns(|| first.feed(&long, 1), || second.feed(&short, 1)));
+    let (mut first, mut second) = (RustHost::new(held), RustHost::new(held));
+    growth_row("Rust", take_turns(|| first.feed(&long, 1), || second.feed(&short, 1)));
+}
+
+fn growth_row(name: &str, (long, short, quotient): (f64, f64, f64)) {
+    println!("| {name} | {:.1} | {:.1} | {quotient:.2} |", long / 1e3, short / 1e3);
+}
+
 fn ipv6_lists() -> Grants {
     let mut lists = Grants::default();
     let network = 0x2001_0db8_u128 << 96;
@@ -234,14 +348,14 @@ fn take_turns(mut first: impl FnMut() -> usize, mut second: impl FnMut() -> usiz
 
 /// How many calls fill a round.
 fn calls(call: &mut impl FnMut() -> usize) -> u32 {
-    let mut count = 64;
+    let mut count = 1;
     loop {
         let begun = Instant::now();
         for _ in 0..count {
             black_box(call());
         }
-        if begun.elapsed() * 4 >= ROUND {
-            return count * 4;
+        if begun.elapsed() >= ROUND {
+            return count;
         }
         count *= 2;
     }

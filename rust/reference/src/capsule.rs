@@ -49,6 +49,37 @@ pub fn read_capsule(bytes: &[u8], at: usize) -> Result<(Capsule, usize), Refusal
     Ok((capsule, frame.next()))
 }
 
+/// The type and the length of a capsule, and the bytes that both take.
+pub(crate) struct Head {
+    pub kind: u64,
+    pub length: u64,
+    pub size: usize,
+}
+
+/// The most bytes that a type and a length take.
+pub(crate) const HEAD_LIMIT: usize = 16;
+
+impl Head {
+    /// None where type or length is cut.
+    #[inline]
+    pub fn parse(bytes: &[u8]) -> Option<Head> {
+        let (kind, kind_size) = parse(bytes)?;
+        let (length, length_size) = parse(&bytes[kind_size..])?;
+        Some(Head { kind, length, size: kind_size + length_size })
+    }
+
+    /// A type that is not skipped.
+    #[inline]
+    pub fn is_known(&self) -> bool {
+        self.kind <= ROUTE_ADVERTISEMENT
+    }
+
+    #[inline]
+    pub fn is_too_long(&self) -> bool {
+        self.is_known() && self.length > MAX_VALUE as u64
+    }
+}
+
 /// A capsule whose value is all there.
 pub(crate) struct Frame<'a> {
     pub kind: u64,
@@ -60,17 +91,15 @@ impl<'a> Frame<'a> {
     #[inline]
     pub fn read(bytes: &'a [u8], at: usize) -> Result<Frame<'a>, Refusal> {
         let rest = bytes.get(at..).ok_or(Refusal::NotAllThere)?;
-        let (kind, kind_size) = parse(rest).ok_or(Refusal::NotAllThere)?;
-        let (length, length_size) = parse(&rest[kind_size..]).ok_or(Refusal::NotAllThere)?;
-        if kind <= ROUTE_ADVERTISEMENT && length > MAX_VALUE as u64 {
+        let head = Head::parse(rest).ok_or(Refusal::NotAllThere)?;
+        if head.is_too_long() {
             return Err(Refusal::ValueTooLong);
         }
-        let size = kind_size + length_size;
-        let rest = &rest[size..];
-        if length > rest.len() as u64 {
+        let rest = &rest[head.size..];
+        if head.length > rest.len() as u64 {
             return Err(Refusal::NotAllThere);
         }
-        Ok(Frame { kind, start: at + size, value: &rest[..length as usize] })
+        Ok(Frame { kind: head.kind, start: at + head.size, value: &rest[..head.length as usize] })
     }
 
     #[inline]

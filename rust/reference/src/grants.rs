@@ -67,7 +67,13 @@ impl Grants {
             return Err(Refusal::BrokenState);
         }
         let frame = Frame::read(bytes, at)?;
-        let event = match frame.kind {
+        Ok((self.take(&frame)?, frame.next()))
+    }
+
+    /// A capsule that is all there.
+    #[inline]
+    pub(crate) fn take(&mut self, frame: &Frame) -> Result<Event, Refusal> {
+        Ok(match frame.kind {
             DATAGRAM => Event::Datagram { start: frame.start, length: frame.value.len() },
             ADDRESS_ASSIGN => {
                 self.received_addresses = read_assign(frame.value)?;
@@ -79,8 +85,7 @@ impl Grants {
                 Event::Advertised
             }
             _ => Event::Skipped,
-        };
-        Ok((event, frame.next()))
+        })
     }
 
     /// An ADDRESS_ASSIGN capsule; its list becomes the given one.

@@ -1,8 +1,9 @@
 //! Capsules as bytes: sound by construction, at limits, damaged.
 
-use crate::lists::{ordered_ranges, sound_entry};
+use crate::lists::{count, ordered_ranges, sound_entry};
 use crate::random::Random;
 use whapirohi_reference::capsule::MAX_VALUE;
+use whapirohi_reference::list::{MAX_ADDRESSES, MAX_RANGES};
 use whapirohi_reference::packet::MAX_PACKET;
 use whapirohi_reference::{AddressEntry, RouteRange};
 
@@ -156,6 +157,56 @@ fn spoil_range(random: &mut Random, ranges: &mut [RouteRange], n: usize) {
     }
 }
 
+/// Type and length as a sender may write them.
+pub fn head(random: &mut Random, kind: u64, length: u64) -> Vec<u8> {
+    let mut bytes = wire_number(random, kind);
+    bytes.extend(wire_number(random, length));
+    bytes
+}
+
+/// The value of a capsule of a type from 0 to 3 that nothing is wrong with.
+pub fn sound_value(random: &mut Random, kind: u64) -> Vec<u8> {
+    match kind {
+        0 => {
+            let length = match random.below(8) {
+                0 => random.pick(&[0, 1, MAX_PACKET, MAX_VALUE - 1, MAX_VALUE]),
+                1 => random.below(MAX_VALUE + 1),
+                _ => random.below(80),
+            };
+            random.bytes(length)
+        }
+        1 | 2 => {
+            let entries = count(random, MAX_ADDRESSES).max(kind as usize - 1);
+            let first_id = random.below(100);
+            let entry = |n| {
+                let mut entry = sound_entry(random);
+                if kind == 2 {
+                    entry.request_id.0 = (first_id + n + 1) as u64;
+                }
+                entry_bytes(random, &entry)
+            };
+            (0..entries).flat_map(entry).collect()
+        }
+        _ => {
+            let ranges = count(random, MAX_RANGES);
+            ordered_ranges(random, ranges).iter().flat_map(range_bytes).collect()
+        }
+    }
+}
+
+/// A capsule that nothing is wrong with, of any type; seldom one so long that it never ends.
+pub fn sound_capsule(random: &mut Random) -> Vec<u8> {
+    let kind = random.below(6) as u64;
+    if kind > 3 {
+        let kind = random.edge_number().max(4);
+        let length = random.pick(&[0, 1, 10, 63, 64, 300, MAX_VALUE + 1, 17000]);
+        let longer = if random.once_in(12) { random.edge_number() } else { 0 };
+        return [head(random, kind, longer.max(length as u64)), random.bytes(length)].concat();
+    }
+    let value = sound_value(random, kind);
+    [head(random, kind, value.len() as u64), value].concat()
+}
+
 /// A capsule; its length is off by one, its value at a limit, or its bytes damaged now and then.
 pub fn capsule(random: &mut Random) -> Vec<u8> {
     let (kind, value) = match random.below(12) {
@@ -182,8 +233,7 @@ pub fn capsule(random: &mut Random) -> Vec<u8> {
         3 => random.pick(&[(1 << 62) - 1, MAX_VALUE as u64, MAX_VALUE as u64 + 1, 1 << 32]),
         _ => value.len() as u64,
     };
-    let mut bytes = wire_number(random, kind);
-    bytes.extend(wire_number(random, length));
+    let mut bytes = head(random, kind, length);
     bytes.extend(value);
     match random.below(16) {
         0 => flip(random, &mut bytes),

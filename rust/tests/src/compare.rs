@@ -1,11 +1,11 @@
 //! One call made of the subject and of the model, and all that either may alter compared; and how often each answer occurred.
 
-use crate::subject::{Model, Subject};
+use crate::subject::{Lent, Model, Subject};
 use crate::words::empty_state;
 use std::collections::BTreeMap;
 use std::fmt::Write;
 use whapirohi_reference::number;
-use whapirohi_tunnel::{AddressWords, Answer, Capsule, Number, RouteWords, State};
+use whapirohi_tunnel::{AddressWords, Answer, Capsule, Number, Piece, RouteWords, State};
 
 /// Every answer that an entry point can give; each must occur in a run.
 pub const ANSWERS: &[(&str, &[&str])] = &[
@@ -19,6 +19,26 @@ pub const ANSWERS: &[(&str, &[&str])] = &[
     (
         "read_capsule",
         &["0 datagram", "0 assign", "0 request", "0 routes", "0 skipped", "1", "2", "3", "4", "5", "6", "7", "9"],
+    ),
+    (
+        "feed",
+        &[
+            "0 datagram",
+            "0 assign",
+            "0 request",
+            "0 routes",
+            "0 skipped",
+            "0 clean",
+            "1",
+            "2",
+            "3",
+            "4",
+            "5",
+            "6",
+            "7",
+            "9",
+            "16",
+        ],
     ),
     ("load_plan", &["0", "20", "21", "22", "23", "24", "25"]),
     ("write_plan", &["0", "16", "23", "25"]),
@@ -212,15 +232,7 @@ impl<'a> Run<'a> {
         let wanted = Model.read_capsule(&mut wanted_state, bytes, at, &mut wanted_requested);
         let (mut got_state, mut got_requested) = (state.clone(), *requested);
         let got = self.subject.read_capsule(&mut got_state, bytes, at, &mut got_requested);
-        let label = match (wanted.number, wanted.kind) {
-            (0, 0) => "0 datagram",
-            (0, 1) => "0 assign",
-            (0, 2) => "0 request",
-            (0, 3) => "0 routes",
-            (0, _) => "0 skipped",
-            (number, _) => label(number),
-        };
-        self.count("read_capsule", label);
+        self.count("read_capsule", capsule_label(wanted.number, wanted.kind));
         let untouched = wanted.number == 0 || wanted_state == *state && wanted_requested == *requested;
         if got != wanted || got_state != wanted_state || got_requested != wanted_requested || !untouched {
             self.fault(format!(
@@ -232,6 +244,42 @@ impl<'a> Run<'a> {
             ));
         }
         (got, got_state, got_requested)
+    }
+
+    /// The answer, and what was lent afterwards; none where the model would have answered or left otherwise.
+    pub fn feed(&mut self, lent: &Lent, bytes: &[u8]) -> Option<(Piece, Lent)> {
+        let (mut wanted_lent, mut got_lent) = (lent.clone(), lent.clone());
+        let wanted = Model.feed(&mut wanted_lent, bytes);
+        let got = self.subject.feed(&mut got_lent, bytes);
+        let clean = wanted.number == 0 && wanted.handed == 0;
+        self.count("feed", if clean { "0 clean" } else { capsule_label(wanted.number, wanted.kind) });
+        let lawful = match wanted.number {
+            0 if clean => bytes.is_empty() && wanted_lent == *lent,
+            0 => wanted.taken <= bytes.len() as u64,
+            1 => wanted.taken == bytes.len() as u64,
+            9 | 16 => wanted_lent == *lent,
+            number => {
+                let state = State { remembered: number, ..lent.state.clone() };
+                wanted.taken == 0 && wanted_lent == Lent { state, ..lent.clone() }
+            }
+        };
+        let same = got == wanted && got_lent == wanted_lent;
+        if !(same && lawful) {
+            let part = |name: &'static str, same: bool| if same { "" } else { name };
+            self.fault(format!(
+                "feed, output of {} bytes, bytes {}\n{}  kept {}\n  wanted {wanted:?}\n  got    {got:?}{}{}{}{}{}",
+                lent.out.len(),
+                hex(bytes),
+                shown_state(&lent.state),
+                hex(&lent.kept[..lent.kept.len().min(lent.state.kept_count as usize)]),
+                part("\n  the states differ", got_lent.state == wanted_lent.state),
+                part("\n  the kept bytes differ", got_lent.kept == wanted_lent.kept),
+                part("\n  the outputs differ", got_lent.out == wanted_lent.out),
+                part("\n  the requested entries differ", got_lent.requested == wanted_lent.requested),
+                part("\n  the model breaks a law", lawful),
+            ));
+        }
+        same.then_some((got, got_lent))
     }
 
     /// The table of answers, and the lines of those that never occurred.
@@ -260,6 +308,17 @@ impl<'a> Run<'a> {
 
 fn label_of(answer: &Answer, _: &[u8]) -> &'static str {
     label(answer.number)
+}
+
+fn capsule_label(number: u64, kind: u64) -> &'static str {
+    match (number, kind) {
+        (0, 0) => "0 datagram",
+        (0, 1) => "0 assign",
+        (0, 2) => "0 request",
+        (0, 3) => "0 routes",
+        (0, _) => "0 skipped",
+        (number, _) => label(number),
+    }
 }
 
 fn label(number: u64) -> &'static str {
@@ -301,6 +360,7 @@ fn shown_state(state: &State) -> String {
         ("given_addresses", &state.given_addresses),
         ("given_routes", &state.given_routes),
         ("plan", &state.plan),
+        ("store", &[state.kept_count, state.to_skip, state.remembered]),
     ] {
         let words = shown(words);
         if !words.is_empty() {

@@ -7,6 +7,7 @@ use crate::lists::{
     sound_addresses, sound_grants, sound_routes,
 };
 use crate::packets::{datagram, scene, variation, Scene};
+use crate::pieces::{capsules_in_pieces, litter_store};
 use crate::plans::{damage_plan, damaged_file, litter_plan, litter_static_bytes, plan_file, sound_plan};
 use crate::random::Random;
 use crate::words::{
@@ -23,11 +24,12 @@ pub type Family = fn(&mut Run, &mut Random, u64);
 
 /// Each family with its share of the cases, in hundredths.
 pub const FAMILIES: &[(&str, Family, u64)] = &[
-    ("numbers", numbers, 10),
-    ("capsules_read", capsules_read, 18),
-    ("capsules_written", capsules_written, 12),
-    ("plans", plans, 15),
-    ("packets", packets, 45),
+    ("numbers", numbers, 8),
+    ("capsules_read", capsules_read, 15),
+    ("capsules_written", capsules_written, 10),
+    ("plans", plans, 12),
+    ("packets", packets, 35),
+    ("capsules_in_pieces", capsules_in_pieces, 20),
 ];
 
 /// What a run must have come by, beside every answer.
@@ -52,6 +54,30 @@ pub const OCCASIONS: &[&str] = &[
     "received alike in both forms, refused",
     "plan read and written back",
     "capsule written and read back",
+    "cut in a type",
+    "cut in a length",
+    "cut in a value",
+    "cut in a skipped value",
+    "cut in a skipped value of 2^61 bytes or more",
+    "empty piece while a capsule is open",
+    "one byte at a time",
+    "4,111 bytes kept",
+    "list that ends in a later piece",
+    "datagram that ends in a later piece",
+    "refusal repeated",
+    "16 in the middle of a stream",
+    "9 in the middle of a stream",
+    "pieces as the whole buffer, clean end",
+    "pieces as the whole buffer, open end",
+    "pieces as the whole buffer, refused",
+    "store: more kept than there is room for",
+    "store: remembers what is not remembered",
+    "store: skips 2^62 bytes or more",
+    "store: keeps bytes and skips",
+    "store: keeps a whole capsule",
+    "store: keeps a type that is skipped",
+    "store: keeps a length that is refused",
+    "store: sound",
 ];
 
 fn numbers(run: &mut Run, random: &mut Random, cases: u64) {
@@ -90,8 +116,8 @@ fn numbers(run: &mut Run, random: &mut Random, cases: u64) {
     }
 }
 
-/// A state of sound lists and a sound plan, littered now and then, damaged seldom.
-fn lists_state(random: &mut Random) -> State {
+/// A state of sound lists, a sound plan and an empty store, littered now and then, damaged seldom.
+pub fn lists_state(random: &mut Random) -> State {
     let plan = if random.once_in(3) { sound_plan(random) } else { Plan::default() };
     let mut state = state_of(&sound_grants(random), &plan);
     if random.once_in(3) {
@@ -107,7 +133,7 @@ fn lists_state(random: &mut Random) -> State {
     state
 }
 
-fn requested(random: &mut Random) -> AddressWords {
+pub fn requested(random: &mut Random) -> AddressWords {
     let mut words = [0; ADDRESS_WORDS];
     words.fill_with(|| random.word());
     words
@@ -116,6 +142,7 @@ fn requested(random: &mut Random) -> AddressWords {
 fn capsules_read(run: &mut Run, random: &mut Random, cases: u64) {
     while run.cases < cases {
         let mut state = lists_state(random);
+        litter_store(random, &mut state);
         let requested = requested(random);
         if !plan_of(&state.plan).sound() {
             run.occasion("capsule read under a broken plan");
@@ -170,7 +197,8 @@ fn capsules_read(run: &mut Run, random: &mut Random, cases: u64) {
 
 fn capsules_written(run: &mut Run, random: &mut Random, cases: u64) {
     while run.cases < cases {
-        let state = lists_state(random);
+        let mut state = lists_state(random);
+        litter_store(random, &mut state);
         let out = random.output(CAPSULE_ROOM);
         match random.below(10) {
             0 | 1 => {
@@ -258,6 +286,7 @@ fn plans(run: &mut Run, random: &mut Random, cases: u64) {
         let plan = sound_plan(random);
         state.plan = plan_words(&sound_plan(random));
         litter_plan(random, &mut state.plan);
+        litter_store(random, &mut state);
         let file = plan_file(&plan);
         let out = random.output(PLAN_ROOM);
 
@@ -308,6 +337,7 @@ fn packets(run: &mut Run, random: &mut Random, cases: u64) {
             litter_plan(random, &mut state.plan);
             litter_static_bytes(random, &mut state.plan);
         }
+        litter_store(random, &mut state);
         if random.once_in(20) {
             if random.once_in(2) {
                 damage_lists(random, &mut state);

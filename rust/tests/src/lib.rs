@@ -8,6 +8,7 @@ pub mod compare;
 pub mod families;
 pub mod lists;
 pub mod packets;
+pub mod pieces;
 pub mod plans;
 pub mod random;
 pub mod subject;

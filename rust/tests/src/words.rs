@@ -1,14 +1,14 @@
 //! The words of a state, as `include/whapirohi.h` lays them out, and the reference's types.
 //!
 //! Bits of a word above the version and the prefix or protocol, and above a static byte, mean nothing; a template's third word, its flag, is
-//! 0 or 1. Unused words mean nothing and are 0 where words are made here.
+//! 0 or 1. Unused words mean nothing and are 0 where words are made here. The store is empty there.
 
 use whapirohi_reference::{
-    AddressEntry, AddressList, Checksum, ContextId, Grants, List, Plan, RequestId, RouteList, RouteRange, Segment,
-    Template,
+    AddressEntry, AddressList, Checksum, ContextId, Grants, List, Plan, Refusal, RequestId, RouteList, RouteRange,
+    Segment, Stream, Template,
 };
-use whapirohi_tunnel::{AddressWords, PlanWords, RouteWords, State};
-use whapirohi_tunnel::{ADDRESS_WORDS, MAX_SEGMENTS, PLAN_WORDS, ROUTE_WORDS, TEMPLATE_WORDS};
+use whapirohi_tunnel::{AddressWords, KeptBytes, PlanWords, RouteWords, State};
+use whapirohi_tunnel::{ADDRESS_WORDS, KEPT_SIZE, MAX_SEGMENTS, PLAN_WORDS, ROUTE_WORDS, TEMPLATE_WORDS};
 
 pub const ENTRY_WORDS: usize = 4;
 pub const RANGE_WORDS: usize = 5;
@@ -28,6 +28,9 @@ pub fn empty_state() -> State {
         given_addresses: [0; ADDRESS_WORDS],
         given_routes: [0; ROUTE_WORDS],
         plan: [0; PLAN_WORDS],
+        kept_count: 0,
+        to_skip: 0,
+        remembered: 0,
     }
 }
 
@@ -38,6 +41,7 @@ pub fn state_of(grants: &Grants, plan: &Plan) -> State {
         given_addresses: address_words(&grants.given_addresses),
         given_routes: route_words(&grants.given_routes),
         plan: plan_words(plan),
+        ..empty_state()
     }
 }
 
@@ -48,7 +52,7 @@ pub fn mirrored(state: &State) -> State {
         received_routes: state.given_routes,
         given_addresses: state.received_addresses,
         given_routes: state.received_routes,
-        plan: state.plan,
+        ..state.clone()
     }
 }
 
@@ -59,6 +63,28 @@ pub fn grants_of(state: &State) -> Grants {
         given_addresses: address_list(&state.given_addresses),
         given_routes: route_list(&state.given_routes),
     }
+}
+
+/// The refusals that a store may remember.
+const REMEMBERED: [Refusal; 6] = [
+    Refusal::ValueTooLong,
+    Refusal::BadAddress,
+    Refusal::BadRange,
+    Refusal::RangesOutOfOrder,
+    Refusal::BadRequestId,
+    Refusal::ListTooLong,
+];
+
+/// The store. A count or a number that the reference has no place for becomes one that breaks the same rule.
+pub fn stream_of(state: &State, kept: &KeptBytes) -> Stream {
+    let count = state.kept_count.min(KEPT_SIZE as u64 + 1) as usize;
+    let mut kept = kept[..count.min(KEPT_SIZE)].to_vec();
+    kept.resize(count, 0);
+    let refused = (state.remembered != 0).then(|| {
+        let refusal = REMEMBERED.into_iter().find(|refusal| u64::from(refusal.number()) == state.remembered);
+        refusal.unwrap_or(Refusal::BrokenState)
+    });
+    Stream { kept, to_skip: state.to_skip, refused }
 }
 
 pub fn address_list(words: &AddressWords) -> AddressList {

@@ -3,11 +3,11 @@
 use whapirohi_differential::compare::Run;
 use whapirohi_differential::families::FAMILIES;
 use whapirohi_differential::random::Random;
-use whapirohi_differential::subject::{Model, Subject};
+use whapirohi_differential::subject::{Lent, Model, Subject};
 use whapirohi_differential::words::{address_list, address_words};
 use whapirohi_reference::number;
 use whapirohi_reference::packet::{complete, put_word, seed, sum};
-use whapirohi_tunnel::{AddressWords, Answer, Capsule, Number, RouteWords, State};
+use whapirohi_tunnel::{AddressWords, Answer, Capsule, Number, Piece, RouteWords, State};
 
 #[derive(Clone, Copy, Debug, PartialEq)]
 enum Slip {
@@ -31,6 +31,15 @@ enum Slip {
     LongNumberTaken,
     PlanKeptOnLoading,
     PlanNotJudgedForCapsules,
+    BytePastTheCapsuleTaken,
+    RefusalForgotten,
+    NoRoomRemembered,
+    SkippedValueKept,
+    WaitBetweenCapsules,
+    FirstPieceDropped,
+    TooLongOnlyWhenAllIsThere,
+    StoreNotJudged,
+    KeptBytesOfAListLost,
 }
 
 struct Wrong(Slip);
@@ -102,6 +111,31 @@ impl Subject for Wrong {
             _ => {}
         }
         capsule
+    }
+
+    fn feed(&self, lent: &mut Lent, bytes: &[u8]) -> Piece {
+        let before = lent.clone();
+        let State { kept_count, to_skip, .. } = before.state;
+        if self.0 == Slip::StoreNotJudged && to_skip > 0 {
+            lent.state.kept_count = 0;
+        }
+        let mut piece = Model.feed(lent, bytes);
+        match self.0 {
+            Slip::BytePastTheCapsuleTaken if piece.handed == 1 && piece.taken < bytes.len() as u64 => piece.taken += 1,
+            Slip::RefusalForgotten => lent.state.remembered = before.state.remembered,
+            Slip::NoRoomRemembered if piece.number == 16 => lent.state.remembered = 16,
+            Slip::SkippedValueKept if lent.state.to_skip > 0 && !bytes.is_empty() => lent.kept[0] = bytes[0],
+            Slip::WaitBetweenCapsules if piece.number == 0 && piece.handed == 0 => piece.number = 1,
+            Slip::FirstPieceDropped if piece.number == 1 && kept_count == 0 => lent.state.kept_count = 0,
+            Slip::TooLongOnlyWhenAllIsThere if piece.number == 2 && bytes.len() < 10 => {
+                piece = Piece { number: 1, taken: bytes.len() as u64, ..piece };
+            }
+            Slip::KeptBytesOfAListLost if piece.number == 0 && kept_count > 0 && piece.kind == 3 => {
+                lent.state.received_routes = before.state.received_routes;
+            }
+            _ => {}
+        }
+        piece
     }
 
     fn write_assign(&self, state: &mut State, list: &AddressWords, out: &mut [u8]) -> Answer {
@@ -202,6 +236,15 @@ fn wrong_subjects_are_found_out() {
         Slip::LongNumberTaken,
         Slip::PlanKeptOnLoading,
         Slip::PlanNotJudgedForCapsules,
+        Slip::BytePastTheCapsuleTaken,
+        Slip::RefusalForgotten,
+        Slip::NoRoomRemembered,
+        Slip::SkippedValueKept,
+        Slip::WaitBetweenCapsules,
+        Slip::FirstPieceDropped,
+        Slip::TooLongOnlyWhenAllIsThere,
+        Slip::StoreNotJudged,
+        Slip::KeptBytesOfAListLost,
     ] {
         assert!(faults(slip) > 0, "{slip:?} is not noticed");
     }
