@@ -1,0 +1,3 @@
+pub mod Repeats
+pub mod Sorting
+pub mod Examples
