@@ -4,8 +4,10 @@ pub mod RangeCases
 pub mod Turn
 pub mod FrameCases
 pub mod HeadLaws
-pub mod Seen
 pub mod RangesTurn
+pub mod IdLaws
+pub mod IdCases
+pub mod IdsTurn
 pub mod EntriesTurn
 pub mod ValueCases
 pub mod Parsing

@@ -1,5 +1,6 @@
 pub mod Elements
 pub mod Entries
+pub mod RequestIds
 pub mod Heads
 pub mod Capsules
 pub mod Results

@@ -7,6 +7,7 @@ ghost use mathlib.Core.Path.{_≡_};
 ghost use Prim.Native.Nat.{_+_, _<_, _^_};
 ghost use lib.ListN.{length};
 ghost use Rattle.capsule.specs.Entries.{readBody, readEntry, readRange};
+ghost use Rattle.capsule.specs.RequestIds.{GoodFront, ReadsId};
 
 // An entry and how many bytes it took; or one that is cut or breaks its rule.
 pub enum EntryRead {
@@ -79,6 +80,29 @@ fn read_body(id: u64, n: usize, t: &[u8]) -> EntryRead
         };
     }
     EntryRead::Bad
+}
+
+// The Request ID of an entry that is good, and how many bytes the entry takes.
+pub(crate) struct IdRead {
+    pub(crate) id: u64,
+    pub(crate) size: usize,
+}
+
+// Of the one at the front of s. Nothing else of it is looked at.
+pub(crate) fn read_id(s: &[u8]) -> IdRead
+    requires { ⌜ GoodFront (now s) ⌝ }
+    ensures { λ r. ⌜ ReadsId (now (s .entry)) r ⌝ }
+{
+    let r = varint::read(s);
+    match r {
+        NumberRead::Whole { value: id, size: n } => {
+            if s[n] == 4 {
+                return IdRead { id, size: n + 6 };
+            }
+            IdRead { id, size: n + 18 }
+        }
+        NumberRead::Cut => IdRead { id: 0, size: 0 },
+    }
 }
 
 // The route range at the front of s: version, start, end, protocol.

@@ -11,14 +11,13 @@ use lists::MAX_RANGES;
 use lists::ROUTE_WORDS;
 use lists::RouteList;
 ghost use mathlib.Core.Path.{_≡_};
-ghost use mathlib.Core.Bool.{false, _||_};
+ghost use mathlib.Core.Bool.{false, _&&_};
 ghost use Prim.Native.Nat.{_≤_};
-ghost use lib.Dec.{eqb};
-ghost use lib.ListN.{length, take};
-ghost use Rattle.octets.specs.Scan.{anyOf};
+ghost use lib.ListN.{length};
 ghost use Rattle.lists.specs.Words.{maxAddresses, maxRanges};
 ghost use Rattle.capsule.specs.Elements.{fault, elementsIn};
 ghost use Rattle.capsule.specs.Entries.{entryFormat, rangeFormat};
+ghost use Rattle.capsule.specs.RequestIds.{idsIn, idsRefused};
 ghost use Rattle.capsule.specs.Capsules.{maxValue, maxEntries, entriesIn, rangesIn};
 ghost use Rattle.capsule.specs.Results.{entriesResult, rangesResult};
 
@@ -64,21 +63,12 @@ fn read_entries(value: &[u8], request: bool) -> EntriesRead
     ensures { λ r. ⌜ r ≡ entriesResult (elementsIn (entryFormat request) request maxAddresses (now (value .entry))) ⌝ }
 {
     let mut words = [0u64; ADDRESS_WORDS];
-    let mut ids = [0u64; MAX_ENTRIES];
     let mut count: usize = 0;
     let mut at: usize = 0;
     while at < value.len() {
         let r = crate::element::read_entry(&value[at..]);
         match r {
             EntryRead::Good { entry, size } => {
-                let id = entry.request_id;
-                if request {
-                    if zero_or_seen(&ids, count, id.0) {
-                        return no_entries(Refusal::BadRequestId);
-                    }
-                }
-                let slot = count;
-                ids[slot] = id.0;
                 if count < MAX_ADDRESSES {
                     lists::put_entry(&mut words, count, entry);
                 }
@@ -86,9 +76,15 @@ fn read_entries(value: &[u8], request: bool) -> EntriesRead
                 at += size;
             }
             EntryRead::Bad => {
+                if ids_refused(value, request, count) {
+                    return no_entries(Refusal::BadRequestId);
+                }
                 return no_entries(Refusal::BadAddress);
             }
         }
+    }
+    if ids_refused(value, request, count) {
+        return no_entries(Refusal::BadRequestId);
     }
     if count == 0 {
         if request {
@@ -106,22 +102,65 @@ fn read_entries(value: &[u8], request: bool) -> EntriesRead
     }
 }
 
-// Whether an ID is zero, or one of the first n.
-fn zero_or_seen(ids: &[u64; MAX_ENTRIES], n: usize, id: u64) -> bool
-    requires { ⌜ n ≤ maxEntries ⌝ }
-    ensures { λ r. ⌜ r ≡ (eqb id 0 || anyOf (λ d. eqb d id) (take n (now (ids .entry)))) ⌝ }
+// Whether this is a request, and of the IDs before its end or its first bad entry, `count` of them, one is zero or two are equal.
+fn ids_refused(value: &[u8], request: bool, count: usize) -> bool
+    requires { ⌜ length (now value) ≤ maxValue ⌝ }
+    requires { ⌜ length (idsIn (now value)) ≡ count ⌝ }
+    ensures { λ r. ⌜ r ≡ (request && idsRefused (idsIn (now (value .entry)))) ⌝ }
 {
-    if id == 0 {
-        return true;
+    if !request {
+        return false;
     }
-    let mut i: usize = 0;
-    while i < n {
-        if ids[i] == id {
+    if count <= MAX_ADDRESSES {
+        return few_refused(value, count);
+    }
+    many_refused(value, count)
+}
+
+// The IDs of no more entries than a list may have: for those of most requests no large array is cleared.
+fn few_refused(value: &[u8], count: usize) -> bool
+    requires { ⌜ length (now value) ≤ maxValue ⌝ }
+    requires { ⌜ length (idsIn (now value)) ≡ count ⌝ }
+    requires { ⌜ count ≤ maxAddresses ⌝ }
+    ensures { λ r. ⌜ r ≡ idsRefused (idsIn (now (value .entry))) ⌝ }
+{
+    let mut ids = [0u64; MAX_ADDRESSES];
+    let mut spare = [0u64; MAX_ADDRESSES];
+    judge_ids(value, count, &mut ids, &mut spare)
+}
+
+// The IDs of as many entries as a value can hold.
+fn many_refused(value: &[u8], count: usize) -> bool
+    requires { ⌜ length (now value) ≤ maxValue ⌝ }
+    requires { ⌜ length (idsIn (now value)) ≡ count ⌝ }
+    requires { ⌜ count ≤ maxEntries ⌝ }
+    ensures { λ r. ⌜ r ≡ idsRefused (idsIn (now (value .entry))) ⌝ }
+{
+    let mut ids = [0u64; MAX_ENTRIES];
+    let mut spare = [0u64; MAX_ENTRIES];
+    judge_ids(value, count, &mut ids, &mut spare)
+}
+
+// The IDs of so many good entries are collected, up to one that is zero, and then compared all at once.
+fn judge_ids(value: &[u8], count: usize, ids: &mut [u64], spare: &mut [u64]) -> bool
+    requires { ⌜ length (now value) ≤ maxValue ⌝ }
+    requires { ⌜ length (idsIn (now value)) ≡ count ⌝ }
+    requires { ⌜ count ≤ length (now ids) ⌝ }
+    requires { ⌜ length (now spare) ≡ length (now ids) ⌝ }
+    ensures { λ r. ⌜ r ≡ idsRefused (idsIn (now (value .entry))) ⌝ }
+{
+    let mut n: usize = 0;
+    let mut at: usize = 0;
+    while n < count {
+        let r = crate::element::read_id(&value[at..]);
+        if r.id == 0 {
             return true;
         }
-        i += 1;
+        ids[n] = r.id;
+        n += 1;
+        at += r.size;
     }
-    false
+    distinct::repeats(&mut ids[..n], &mut spare[..n])
 }
 
 fn no_entries(why: Refusal) -> EntriesRead

@@ -1,46 +1,39 @@
--- The invariant: the words and the IDs hold the entries read so far, and what is left to parse gives the whole answer. Each entry took 7 bytes
--- at least, so that there is room for its ID. A turn is `EntriesTurn`'s.
+-- The invariant: the words hold the entries read so far, and what is left to parse gives the answer for an assignment. A request's IDs are judged at the
+-- first bad entry or at the end, which is what the definition says (`IdLaws`). A turn is `EntriesTurn`'s.
 use Prim.Native.Nat.{_+_, _-_}
 use mathlib.Core.Path.{_≡_, sym, _∙_}
 use mathlib.Core.Logic.{⊎-elim}
 use native.Mathlib.Omega.{arith}
 use borrow.Author.Needs.{needs}
-use lib.ListN.{length, drop, set}
-use Rattle.answer.specs.declared.Verdict.the-variants.{Go}
+use lib.ListN.{length, drop}
 use Rattle.octets.proofs.Parts as Parts
-use Rattle.lists.specs.Rules.{idOf}
 use Rattle.capsule.specs.declared.element.EntryRead.the-variants.{Good}
-use Rattle.capsule.specs.Entries.{readEntry, entryFollows}
+use Rattle.capsule.specs.Entries.{readEntry}
 use Rattle.capsule.proofs.EntryCases as Entry
 use Rattle.capsule.proofs.EntriesTurn as T
 use Rattle.capsule.proofs.list.read_entries.Statement.{statement}
 use Rattle.capsule.proofs.list.read_entries.Tie as tie
 
 abbrev Inv-loop : tie.InvT-loop
-Inv-loop value request words₀ ids₀ count₀ at₀ words ids count at = T.Reading request value words ids count at
+Inv-loop value request words₀ count₀ at₀ words count at = T.Reading request value words count at
 
 abbrev μ-loop : tie.MeasureT-loop
-μ-loop value request words₀ ids₀ count₀ at₀ words ids count at = length value - at
+μ-loop value request words₀ count₀ at₀ words count at = length value - at
 
 -- what was read in the turn
-got : (c : tie.Joined1 Inv-loop μ-loop) → readEntry (drop (c .before .before .before .before .before .before .before .before .loop .at) (c .before .before .before .before .before .before .before .before .before .before .args .value .now)) ≡ Good (c .before .before .before .r .given .0 .0) (c .before .before .before .r .given .0 .1 .0)
+got : (c : tie.Joined1 Inv-loop μ-loop) → readEntry (drop (c .before .before .before .before .before .before .before .loop .at) (c .before .before .before .before .before .before .before .before .before .args .value .now)) ≡ Good (c .before .before .r .given .0 .0) (c .before .before .r .given .0 .1 .0)
 got c =
-    let q = sym (c .before .before .before .before .before .read-entry .ensures) ∙ c .before .before .before .r .given .1 in
+    let q = sym (c .before .before .before .before .read-entry .ensures) ∙ c .before .before .r .given .1 in
     rw Parts.tail at q
 
--- its Request ID is neither zero nor one of the earlier, where that is asked
-follows : (c : tie.Joined1 Inv-loop μ-loop) → entryFollows (c .before .before .before .before .before .before .before .before .before .before .args .request) (c .before .before .before .before .before .before .before .before .loop .inv .earlier) (c .before .before .before .r .given .0 .0) ≡ Go
-follows c =
-    ⊎-elim (λ w. T.fresh _ _ (c .before .before .before .r .given .0 .0) (T.repeated-seen (c .before .before .before .before .before .before .before .before .loop .inv) (c .before .before .before .r .given .0 .0) ∙ sym (w .2 .ensures) ∙ w .3 .left)) (λ w. T.assigned _ _ _ (w .left)) (c .if1 .came)
-
 -- the invariant after the turn, where the branch's arms have met
-turned : (c : tie.Joined3 Inv-loop μ-loop)
-    → T.Reading (c .before .before .before .before .before .before .before .before .before .before .before .args .request) (c .before .before .before .before .before .before .before .before .before .before .before .args .value .now) (c .if3 .words) (set (c .before .before .before .before .before .before .before .before .before .loop .ids) (c .before .before .before .before .before .before .before .before .before .loop .count) (idOf (c .before .before .before .before .r .given .0 .0))) (c .before .before .before .before .before .before .before .before .before .loop .count + 1) (c .before .before .before .before .before .before .before .before .before .loop .at + c .before .before .before .before .r .given .0 .1 .0)
+turned : (c : tie.Joined1 Inv-loop μ-loop)
+    → T.Reading (c .before .before .before .before .before .before .before .before .before .args .request) (c .before .before .before .before .before .before .before .before .before .args .value .now) (c .if1 .words) (c .before .before .before .before .before .before .before .loop .count + 1) (c .before .before .before .before .before .before .before .loop .at + c .before .before .r .given .0 .1 .0)
 turned c =
-    let i = c .before .before .before .before .before .before .before .before .before .loop .inv in
-    ⊎-elim (λ w. rw (w .3 ∙ w .2 .ensures) (T.next i (omega arith) _ _ (got (c .before)) (omega arith) (follows (c .before)) (omega arith)))
-    (λ w. rw (w .1) (T.next-full i (omega arith) _ _ (got (c .before)) (omega arith) (follows (c .before)) (omega arith)))
-    (c .if3 .came)
+    let i = c .before .before .before .before .before .before .before .loop .inv in
+    ⊎-elim (λ w. rw (w .3 ∙ w .2 .ensures) (T.next i (omega arith) _ _ (got c) (omega arith)))
+    (λ w. rw (w .1) (T.next-full i (omega arith) _ _ (got c) (omega arith)))
+    (c .if1 .came)
 
 loop-holds : tie.Need-loop-holds Inv-loop μ-loop
 loop-holds c = T.start _ _
@@ -60,32 +53,17 @@ read-entry-requires c κs = search needs
 enum-known-r : tie.Need-enum-known-r Inv-loop μ-loop
 enum-known-r c = search needs
 
-zero-or-seen-requires : tie.Need-zero-or-seen-requires Inv-loop μ-loop
-zero-or-seen-requires c κs = omega (arith, c .before .before .before .before .before .before .before .before .before .loop .inv .behind, c .before .before .before .before .before .before .before .before .before .loop .inv .reading .within)
-
-no-entries-requires : tie.Need-no-entries-requires Inv-loop μ-loop
-no-entries-requires c κs = search needs
-
-returns : tie.Need-returns Inv-loop μ-loop
-returns c = c .no-entries .ensures ∙ T.fault-id (c .before .before .before .before .before .before .before .before .before .before .before .before .loop .inv) (omega arith) _ _ (rw Parts.tail at (sym (c .before .before .before .before .before .before .before .before .before .read-entry .ensures) ∙ c .before .before .before .before .before .before .before .r .given .1)) (c .before .before .before .before .if1 .taken) (sym (c .before .before .zero-or-seen .ensures) ∙ c .before .if2 .taken)
-
-mul-ids : tie.Need-mul-ids Inv-loop μ-loop
-mul-ids c = search needs
-
-array-write-ids : tie.Need-array-write-ids Inv-loop μ-loop
-array-write-ids c = omega (arith, T.id-room (c .before .before .before .before .before .before .before .before .loop .inv) (omega arith) _ _ (got c) (omega arith))
-
 put-entry-requires : tie.Need-put-entry-requires Inv-loop μ-loop
 put-entry-requires c κs = search needs
 
 add-count : tie.Need-add-count Inv-loop μ-loop
-add-count c = omega (arith, turned c .behind, turned c .reading .within)
+add-count c = omega (arith, turned c .counted, turned c .reading .behind, turned c .reading .within)
 
 add-at : tie.Need-add-at Inv-loop μ-loop
 add-at c = omega (arith, turned c .reading .within)
 
 loop-less : tie.Need-loop-less Inv-loop μ-loop
-loop-less c = omega (arith, Entry.size _ _ _ (got (c .before)) .0, turned c .reading .within)
+loop-less c = omega (arith, Entry.size _ _ _ (got c) .0, turned c .reading .within)
 
 loop-again : tie.Need-loop-again Inv-loop μ-loop
 loop-again c = turned c
@@ -93,29 +71,47 @@ loop-again c = turned c
 enum-told : tie.Need-enum-told Inv-loop μ-loop
 enum-told c = search needs
 
+ids-refused-requires : tie.Need-ids-refused-requires Inv-loop μ-loop
+ids-refused-requires c κs = (search needs, T.ids-before (c .before .before .before .before .before .loop .inv) (omega arith) (rw Parts.tail at (sym (c .before .before .read-entry .ensures) ∙ c .enum-told .given .1)))
+
+no-entries-requires : tie.Need-no-entries-requires Inv-loop μ-loop
+no-entries-requires c κs = search needs
+
+returns : tie.Need-returns Inv-loop μ-loop
+returns c = c .no-entries .ensures ∙ T.refused _ _ _ (c .before .before .ids-refused .ensures) (c .before .if2 .taken)
+
 no-entries-requires-2 : tie.Need-no-entries-requires-2 Inv-loop μ-loop
 no-entries-requires-2 c κs = search needs
 
 returns-2 : tie.Need-returns-2 Inv-loop μ-loop
-returns-2 c = c .no-entries2 .ensures ∙ T.fault-entry (c .before .before .before .before .before .before .loop .inv) (omega arith) (rw Parts.tail at (sym (c .before .before .before .read-entry .ensures) ∙ c .before .enum-told .given .1))
+returns-2 c = c .no-entries2 .ensures ∙ T.passed _ _ _ (c .before .before .ids-refused .ensures) (c .before .if2 .left) (T.fault-entry (c .before .before .before .before .before .before .before .before .loop .inv) (omega arith) (rw Parts.tail at (sym (c .before .before .before .before .before .read-entry .ensures) ∙ c .before .before .before .enum-told .given .1)))
+
+ids-refused-requires-2 : tie.Need-ids-refused-requires-2 Inv-loop μ-loop
+ids-refused-requires-2 c κs = (search needs, T.ids-all (c .before .loop .inv) (omega arith))
 
 no-entries-requires-3 : tie.Need-no-entries-requires-3 Inv-loop μ-loop
 no-entries-requires-3 c κs = search needs
 
 returns-3 : tie.Need-returns-3 Inv-loop μ-loop
-returns-3 c = c .no-entries3 .ensures ∙ T.empty (c .before .before .before .before .loop .inv) (omega arith) (omega arith) (c .before .if5 .taken)
+returns-3 c = c .no-entries3 .ensures ∙ T.refused _ _ _ (c .before .before .ids-refused2 .ensures) (c .before .if3 .taken)
 
 no-entries-requires-4 : tie.Need-no-entries-requires-4 Inv-loop μ-loop
 no-entries-requires-4 c κs = search needs
 
 returns-4 : tie.Need-returns-4 Inv-loop μ-loop
-returns-4 c = c .no-entries4 .ensures ∙ T.many (c .before .before .before .before .loop .inv) (omega arith) (omega arith)
+returns-4 c = c .no-entries4 .ensures ∙ T.passed _ _ _ (c .before .before .before .before .ids-refused2 .ensures) (c .before .before .before .if3 .left) (T.empty (c .before .before .before .before .before .before .loop .inv) (omega arith) (omega arith) (c .before .if5 .taken))
+
+no-entries-requires-5 : tie.Need-no-entries-requires-5 Inv-loop μ-loop
+no-entries-requires-5 c κs = search needs
+
+returns-5 : tie.Need-returns-5 Inv-loop μ-loop
+returns-5 c = c .no-entries5 .ensures ∙ T.passed _ _ _ (c .before .before .before .before .ids-refused2 .ensures) (c .before .before .before .if3 .left) (T.many (c .before .before .before .before .before .before .loop .inv) (omega arith) (omega arith))
 
 array-write-words : tie.Need-array-write-words Inv-loop μ-loop
 array-write-words c = search needs
 
-returns-5 : tie.Need-returns-5 Inv-loop μ-loop
-returns-5 c = T.fine (c .before .before .before .loop .inv) (omega arith) (omega arith) (⊎-elim (λ w. λ e. w .1 .left) (λ w. λ e. absurd (w .left e)) (c .before .if4 .came))
+returns-6 : tie.Need-returns-6 Inv-loop μ-loop
+returns-6 c = T.fine (c .before .before .before .before .before .loop .inv) (omega arith) _ (c .before .before .before .ids-refused2 .ensures) (c .before .before .if3 .left) (omega arith) (⊎-elim (λ w. λ e. w .1 .left) (λ w. λ e. absurd (w .left e)) (c .before .if4 .came))
 
 pub read-entries-spec : {M : Type 1} → statement M
 read-entries-spec =
@@ -129,22 +125,23 @@ read-entries-spec =
     part-read-entry-end
     read-entry-requires
     enum-known-r
-    zero-or-seen-requires
-    no-entries-requires
-    returns
-    mul-ids
-    array-write-ids
     put-entry-requires
     add-count
     add-at
     loop-less
     loop-again
     enum-told
+    ids-refused-requires
+    no-entries-requires
+    returns
     no-entries-requires-2
     returns-2
+    ids-refused-requires-2
     no-entries-requires-3
     returns-3
     no-entries-requires-4
     returns-4
+    no-entries-requires-5
+    returns-5
     array-write-words
-    returns-5)
+    returns-6)
