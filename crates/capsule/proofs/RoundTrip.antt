@@ -1,15 +1,14 @@
 -- A capsule that is written is read back, whatever follows; and one that is read with every number in its shortest form is what would be
 -- written. The frame is that of two numbers; the value is by the laws of lists. Assumes nothing.
-use Prim.Native.Nat.{ℕ, suc, _+_, _^_, _≤_}
+use Prim.Native.Nat.{ℕ, suc, _+_, _≤_}
 use mathlib.Core.Bool.{true, false, _&&_}
 use mathlib.Core.Path.{_≡_, refl, sym, ap, _∙_}
 use mathlib.Core.List.{List, [], _++_, append-assoc}
-use mathlib.Core.Logic.{⊎-elim}
 use native.Mathlib.Omega.{arith}
 use borrow.Author.Tests.{eqb-true}
 use lib.ListN.{length, take, drop, length-append, length-take, length-drop}
 use lib.Seq.{take-append-seam, take-at, take-add, drop-at, drop-drop}
-use Rattle.answer.proofs.Tests.{and-both, order}
+use Rattle.answer.proofs.Tests.{and-both}
 use Rattle.octets.specs.Big.{Bytes}
 use Rattle.octets.proofs.BigLaws as Big
 use Rattle.varint.specs.Numbers.{readNumber, encode, encodedSize, shortest}
@@ -116,26 +115,6 @@ length-capsule c (sound-assign {es} r) k = sym (length-frame 1 (written (entryFo
 length-capsule c (sound-request {es} r) k = sym (length-frame 2 (written (entryFormat true) es) [] (omega arith) (value-within c (sound-request r)))
 length-capsule c (sound-advertise {rs} r) k = sym (length-frame 3 (written rangeFormat rs) [] (omega arith) (value-within c (sound-advertise r)))
 length-capsule c sound-unknown k = absurd (k refl)
-
--- its type takes one byte, and its length two at most
-length-most : (kind : ℕ) (v : List ℕ) → kind ≤ 3 → length v ≤ maxValue → length (frameBytes kind v) ≤ 3 + maxValue
-length-most kind v h l =
-    let a : encodedSize kind ≡ 1 = Encoding.size-one kind (omega arith) in
-    let b : encodedSize (length v) ≤ 2 =
-    ⊎-elim (λ g. omega (arith, Encoding.size-one (length v) g)) (λ g. omega (arith, Encoding.size-two (length v) g (omega arith))) (order (length v) (2 ^ 6)) in
-    omega (arith, length-frame kind v [] h l)
-
-length-unknown : length (frameBytes 4 []) ≡ 2
-unfolding encode
-length-unknown = refl
-
-pub capsule-within : (c : Capsule) → Sound c → length (capsuleBytes c) ≤ 3 + maxValue
-unfolding capsuleBytes
-capsule-within c (sound-datagram {v} h) = length-most 0 v (omega arith) h
-capsule-within c (sound-assign {es} r) = length-most 1 (written (entryFormat false) es) (omega arith) (value-within c (sound-assign r))
-capsule-within c (sound-request {es} r) = length-most 2 (written (entryFormat true) es) (omega arith) (value-within c (sound-request r))
-capsule-within c (sound-advertise {rs} r) = length-most 3 (written rangeFormat rs) (omega arith) (value-within c (sound-advertise r))
-capsule-within c sound-unknown = omega (arith, length-unknown)
 
 -- ---- read, then written
 module _ (s : List ℕ) (h : Bytes s) (kind start count : ℕ) (f : Frame.Framed s kind start count) where

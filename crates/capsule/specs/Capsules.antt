@@ -20,7 +20,7 @@ use Rattle.capsule.specs.Entries.{entryFormat, rangeFormat}
 
 -- the most bytes of a value of types 0 to 3
 abbrev pub maxValue : ℕ
-maxValue = 4096
+maxValue = 16384
 
 -- the fewest bytes of an entry: an ID of one byte, the version, four bytes of address, the prefix
 abbrev pub minEntry : ℕ

@@ -67,6 +67,17 @@ repeated-request : readCapsule (0x02 ∷ 0x15 ∷ 0x05 ∷ 0x04 ∷ 0xc0 ∷ 0x0
 unfolding readCapsule frameOf readNumber readValue elementsIn parse readEntry readBody soundEntry entryFollows
 repeated-request = refl
 
+-- an ID again, and an entry of version 5 behind it; and such an entry before it
+repeated-before-bad : readCapsule (0x02 ∷ 0x10 ∷ 0x05 ∷ 0x04 ∷ 0xc0 ∷ 0x00 ∷ 0x02 ∷ 0x03 ∷ 0x20 ∷ 0x05 ∷ 0x04 ∷ 0xc0 ∷ 0x00 ∷ 0x02 ∷ 0x04 ∷ 0x20 ∷ 0x07 ∷ 0x05 ∷ [])
+    ≡ refused BadRequestId
+unfolding readCapsule frameOf readNumber readValue elementsIn parse readEntry readBody soundEntry entryFollows
+repeated-before-bad = refl
+
+bad-before-repeated : readCapsule (0x02 ∷ 0x10 ∷ 0x05 ∷ 0x04 ∷ 0xc0 ∷ 0x00 ∷ 0x02 ∷ 0x03 ∷ 0x20 ∷ 0x07 ∷ 0x05 ∷ 0x05 ∷ 0x04 ∷ 0xc0 ∷ 0x00 ∷ 0x02 ∷ 0x04 ∷ 0x20 ∷ [])
+    ≡ refused BadAddress
+unfolding readCapsule frameOf readNumber readValue elementsIn parse readEntry readBody soundEntry entryFollows
+bad-before-repeated = refl
+
 -- 192.0.2.0/24, and 192.0.2.1/24
 network-assigned : readCapsule (0x01 ∷ 0x07 ∷ 0x00 ∷ 0x04 ∷ 0xc0 ∷ 0x00 ∷ 0x02 ∷ 0x00 ∷ 0x18 ∷ []) ≡ capsule (assign (network 0 0 24 ∷ [])) 2 9
 unfolding readCapsule frameOf readNumber readValue elementsIn parse readEntry readBody soundEntry entryFollows
@@ -116,12 +127,12 @@ never-whole : readCapsule (0x21 ∷ 0xff ∷ 0xff ∷ 0xff ∷ 0xff ∷ 0xff ∷
 unfolding readCapsule frameOf readNumber readValue
 never-whole = refl
 
--- a length of 4097, and of 4096, of which nothing is there
-over-limit : readCapsule (0x01 ∷ 0x50 ∷ 0x01 ∷ []) ≡ refused TooLong
+-- a length of 16385, and of 16384, of which nothing is there
+over-limit : readCapsule (0x01 ∷ 0x80 ∷ 0x00 ∷ 0x40 ∷ 0x01 ∷ []) ≡ refused TooLong
 unfolding readCapsule frameOf readNumber readValue
 over-limit = refl
 
-at-limit : readCapsule (0x01 ∷ 0x50 ∷ 0x00 ∷ []) ≡ refused Incomplete
+at-limit : readCapsule (0x01 ∷ 0x80 ∷ 0x00 ∷ 0x40 ∷ 0x00 ∷ []) ≡ refused Incomplete
 unfolding readCapsule frameOf readNumber readValue
 at-limit = refl
 

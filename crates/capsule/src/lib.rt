@@ -23,7 +23,7 @@ ghost use Rattle.capsule.specs.Heads.{HeadRead};
 ghost use Rattle.capsule.specs.Results.{refusedAt, otherKind, valueVerdict, frameIn, readAt};
 
 // The most bytes of a value of types 0 to 3.
-pub const MAX_VALUE: usize = 4096;
+pub const MAX_VALUE: usize = 16384;
 
 // The most bytes of type and length.
 pub const HEAD_SIZE: usize = 16;

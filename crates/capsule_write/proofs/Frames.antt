@@ -1,9 +1,8 @@
 -- The bytes of a capsule part by part, how many they are, and what writing them answers. Assumes nothing.
-use Prim.Native.Nat.{ℕ, _+_, _<_, _≤_, _^_}
+use Prim.Native.Nat.{ℕ, _+_, _<_, _≤_}
 use mathlib.Core.Bool.{Bool, true, false}
 use mathlib.Core.Path.{_≡_, refl, sym, ap, _∙_}
 use mathlib.Core.List.{List, [], _∷_, _++_, append-assoc}
-use mathlib.Core.Logic.{⊎-elim}
 use native.Mathlib.Omega.{arith}
 use borrow.Author.Tests.{lt-ltb, le-ltb}
 use lib.ListN.{length, length-append}
@@ -14,9 +13,8 @@ use Rattle.answer.specs.declared.Refusal.the-variants.{NoRoom, TooLong}
 use Rattle.answer.specs.declared.Verdict.{Verdict}
 use Rattle.answer.specs.declared.Verdict.the-variants.{Go, Stop}
 use Rattle.answer.specs.Verdict.{Writes}
-use Rattle.answer.proofs.Tests.{order}
-use Rattle.varint.specs.Numbers.{encode, encodedSize}
-use Rattle.varint.proofs.Encoding.{length-encode, size-one, size-two}
+use Rattle.varint.specs.Numbers.{encode}
+use Rattle.varint.proofs.Encoding.{length-encode, size-one, size-small}
 use Rattle.lists.specs.declared.AddressEntry.{AddressEntry}
 use Rattle.octets.specs.Scan.{from}
 use Rattle.lists.specs.Words.{countOf, entryAt, rangeAt, entriesOf, rangesOf}
@@ -24,19 +22,22 @@ use Rattle.capsule.specs.Elements.{written}
 use Rattle.capsule.specs.Entries.{entryFormat, rangeFormat}
 use Rattle.capsule.specs.Capsules.{maxValue, frameBytes, capsuleBytes, datagram, assign, request, advertise}
 use Rattle.output.specs.Places.{Put}
-use Rattle.capsule_write.specs.Verdicts.{capsuleRoom, withRoom, valueLimit}
+use Rattle.capsule_write.specs.Verdicts.{headerRoom, capsuleRoom, withRoom, valueLimit}
 use Rattle.output.proofs.Placing.{put-then, put-as, put-front}
 
 -- ---- the frame
 
--- type and length take three bytes at most
-pub header-most : (kind size : ℕ) → kind ≤ 3 → size ≤ maxValue → length (encode kind ++ encode size) ≤ 3
+-- there is room for type and length
+pub header-most : (kind size : ℕ) → kind ≤ 3 → size ≤ maxValue → length (encode kind ++ encode size) ≤ headerRoom
 header-most kind size g h =
-    let a : encodedSize kind ≡ 1 = size-one kind (omega arith) in
-    let l = length-append (encode kind) (encode size) in
-    ⊎-elim (λ s. omega (arith, l, length-encode kind, length-encode size, size-one size s))
-    (λ s. omega (arith, l, length-encode kind, length-encode size, size-two size s (omega arith)))
-    (order size (2 ^ 6))
+    omega (
+      arith,
+      size-one kind (omega arith),
+      size-small size (omega arith),
+      length-encode kind,
+      length-encode size,
+      length-append (encode kind) (encode size),
+    )
 
 pub put-frame : (kind : ℕ) {size : ℕ} {v a b d : List ℕ} {r s : ℕ} → size ≡ length v → Put (encode kind ++ encode size) 0 a r b
     → Put v r b s d → Put (frameBytes kind v) 0 a s d

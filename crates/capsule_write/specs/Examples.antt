@@ -72,6 +72,10 @@ datagram-bytes = refl
 
 -- ---- refused
 
+-- the least output has 16,392 bytes
+room : capsuleRoom ≡ 16392
+room = refl
+
 one-byte-less : withRoom (capsuleRoom - 1) (entriesVerdict false assigned) ≡ Stop NoRoom
 unfolding withRoom
 one-byte-less = refl
@@ -96,16 +100,16 @@ repeated-assignment : withRoom capsuleRoom (entriesVerdict false repeated) ≡ G
 unfolding withRoom entriesVerdict entryAt entryFollows soundEntry packEntries repeated entry4 ipv4
 repeated-assignment = refl
 
--- the words of sixteen entries under a count of 17: a fault of theirs comes first
-seventeen : AddressEntry → List ℕ
-seventeen e = 17 ∷ entryWords maxAddresses (replicate 16 e)
+-- the words of a full list under a count of one more: a fault of theirs comes first
+onePast : AddressEntry → List ℕ
+onePast e = (maxAddresses + 1) ∷ entryWords maxAddresses (replicate maxAddresses e)
 
-too-many : withRoom capsuleRoom (entriesVerdict false (seventeen (entry4 0 32))) ≡ Stop TooMany
-unfolding withRoom entriesVerdict entryAt entryFollows soundEntry seventeen entry4 ipv4
+too-many : withRoom capsuleRoom (entriesVerdict false (onePast (entry4 0 32))) ≡ Stop TooMany
+unfolding withRoom entriesVerdict entryAt entryFollows soundEntry onePast entry4 ipv4
 too-many = refl
 
-broken-first : withRoom capsuleRoom (entriesVerdict false (seventeen (entry4 0 24))) ≡ Stop BadAddress
-unfolding withRoom entriesVerdict entryAt entryFollows soundEntry seventeen entry4 ipv4
+broken-first : withRoom capsuleRoom (entriesVerdict false (onePast (entry4 0 24))) ≡ Stop BadAddress
+unfolding withRoom entriesVerdict entryAt entryFollows soundEntry onePast entry4 ipv4
 broken-first = refl
 
 -- UDP and then all protocols

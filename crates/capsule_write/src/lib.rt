@@ -25,7 +25,7 @@ ghost use Rattle.output.specs.Places.{Put};
 ghost use Rattle.capsule_write.specs.Verdicts.{capsuleRoom};
 ghost use Rattle.capsule_write.specs.Verdicts.{DatagramWritten, EntriesWritten, AssignWritten, RequestWritten, RequestValueWritten, RoutesWritten};
 
-// The room for type and length: they take three bytes at most, since a value is below 2^14.
+// The room for type and length: they take five bytes at most, since a value is below 2^30.
 pub const HEADER_ROOM: usize = 8;
 
 // The least output that a capsule is written to.

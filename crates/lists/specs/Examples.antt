@@ -3,10 +3,12 @@ use Prim.Native.Nat.{ℕ, _+_, _*_}
 use mathlib.Core.Bool.{Bool, true, false}
 use mathlib.Core.Path.{_≡_, refl}
 use mathlib.Core.List.{List, [], _∷_}
+use lib.ListN.{replicate}
 use Rattle.lists.specs.declared.AddressEntry.{AddressEntry}
 use Rattle.lists.specs.declared.RouteRange.{RouteRange}
 use Rattle.lists.specs.Rules.{soundEntry, soundRange, inOrder, beforeAll}
-use Rattle.lists.specs.Words.{rangeAt, rangesOf, soundRoutes, packRanges}
+use Rattle.octets.specs.Scan.{from}
+use Rattle.lists.specs.Words.{rangeAt, rangesOf, soundAddresses, soundRoutes, packRanges}
 
 -- the IPv4 address of four bytes
 ipv4 : ℕ → ℕ → ℕ → ℕ → ℕ
@@ -96,3 +98,28 @@ routes-read-back = refl
 routes-sound : soundRoutes (rangesOf (packRanges routes)) ≡ true
 unfolding soundRoutes rangesOf packRanges rangeAt soundRange inOrder routes range4 ipv4 udp
 routes-sound = refl
+
+-- ---- full lists, and one element more
+
+soundRow : ℕ → Bool
+soundRow n = soundAddresses (replicate n (entry4 (ipv4 192 0 2 0) 24))
+
+addresses-full : soundRow 32 ≡ true
+unfolding soundRow soundAddresses soundEntry entry4 ipv4
+addresses-full = refl
+
+addresses-over : soundRow 33 ≡ false
+unfolding soundRow soundAddresses soundEntry entry4 ipv4
+addresses-over = refl
+
+-- protocols 0 to 255 for one address, and then one address more
+protocols : List RouteRange
+protocols = from (λ p. range4 p 2 2) 0 256
+
+routes-full : soundRoutes protocols ≡ true
+unfolding protocols soundRoutes soundRange inOrder range4 ipv4
+routes-full = refl
+
+routes-over : soundRoutes (range4 0 1 1 ∷ protocols) ≡ false
+unfolding protocols soundRoutes soundRange inOrder range4 ipv4
+routes-over = refl

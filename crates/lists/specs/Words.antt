@@ -12,10 +12,10 @@ use Rattle.octets.specs.Scan.{from, allOf}
 use Rattle.lists.specs.Rules.{idOf, soundEntry, beforeAll, soundAfter}
 
 abbrev pub maxAddresses : ℕ
-maxAddresses = 16
+maxAddresses = 32
 
 abbrev pub maxRanges : ℕ
-maxRanges = 64
+maxRanges = 256
 
 -- at most so many elements, and every one sound; ranges are in order
 unfoldable pub soundAddresses : List AddressEntry → Bool

@@ -8,9 +8,9 @@ ghost use Rattle.lists.specs.Rules.{soundEntry, soundRange, inOrder, bef
 ghost use Rattle.lists.specs.Words.{maxAddresses, maxRanges, addressWords, routeWords, entryAt, rangeAt, entriesOf, rangesOf, putEntry, putRange, soundAddresses, soundRoutes, noAddresses, noRoutes};
 
 // The most entries of an address list, and the most ranges of a route list.
-pub const MAX_ADDRESSES: usize = 16;
+pub const MAX_ADDRESSES: usize = 32;
 
-pub const MAX_RANGES: usize = 64;
+pub const MAX_RANGES: usize = 256;
 
 // The words of an element, and of a list: the count and the elements.
 pub const WORDS_PER_ENTRY: usize = 4;

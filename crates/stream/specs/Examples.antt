@@ -1,5 +1,5 @@
 -- Calls, computed.
-use Prim.Native.Nat.{ℕ, _+_, _-_, _^_}
+use Prim.Native.Nat.{ℕ, _-_, _^_}
 use mathlib.Core.Path.{_≡_, refl}
 use mathlib.Core.Bool.{true, false}
 use mathlib.Core.List.{List, [], _∷_}
@@ -14,7 +14,7 @@ use Rattle.policy.specs.Granted.{soundSide}
 use Rattle.lists.specs.Words.{entriesOf, rangesOf, soundAddresses, soundRoutes}
 use Rattle.table.specs.Rules.{planFault, soundTemplates}
 use Rattle.table.specs.Words.{templatesOf}
-use Rattle.state.specs.State.{storeAt, stateWords, soundState}
+use Rattle.state.specs.State.{stateWords, soundState}
 use Rattle.stream.specs.Store.{Store, empty, toSkip, soundStore, out, clean, wait, remembers, says, feedStore}
 use Rattle.stream.specs.Feeding.{keptSize, storeIn, feedTests, feedVerdict}
 
@@ -80,10 +80,17 @@ longest = refl
 
 -- ---- refusals
 
--- 4,097 bytes of a DATAGRAM: 2, found at the length; one byte before, it waits
-too-long : feedStore (holding (0x00 ∷ 0x50 ∷ [])) (0x01 ∷ []) ≡ remembers (holding (0x00 ∷ 0x50 ∷ [])) TooLong
-unfolding feedStore readCapsule frameOf readNumber readValue toSkip headOf holding
+-- 16,385 bytes of a DATAGRAM: 2, found at the length; 16,384 are waited for
+cutLength : Store
+cutLength = holding (0x00 ∷ 0x80 ∷ 0x00 ∷ 0x40 ∷ [])
+
+too-long : feedStore cutLength (0x01 ∷ []) ≡ remembers cutLength TooLong
+unfolding feedStore readCapsule frameOf readNumber readValue toSkip headOf holding cutLength
 too-long = refl
+
+longest-value : feedStore cutLength (0x00 ∷ []) ≡ record { said = wait; taken = 1; store = holding (0x00 ∷ 0x80 ∷ 0x00 ∷ 0x40 ∷ 0x00 ∷ []) }
+unfolding feedStore readCapsule frameOf readNumber readValue toSkip headOf holding cutLength
+longest-value = refl
 
 -- an empty request, and every call after it
 refused : feedStore (holding (0x02 ∷ [])) (0x00 ∷ 0x00 ∷ []) ≡ remembers (holding (0x02 ∷ [])) BadRequestId
@@ -114,6 +121,10 @@ skipped-kept = refl
 nine-kept : soundStore (record { kept = []; skip = 0; stopped = Stop BrokenState }) ≡ false
 unfolding soundStore frameOf readNumber toSkip headOf
 nine-kept = refl
+
+-- ---- the bytes that are lent beside the state
+kept-size : keptSize ≡ 16400
+kept-size = refl
 
 -- ---- a new state, whose words are all 0: too small an output comes first
 fresh : List ℕ

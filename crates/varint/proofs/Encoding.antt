@@ -60,6 +60,12 @@ size-bounds v =
     (λ a. ⊎-elim (λ b. (omega arith, omega arith)) (λ b. ⊎-elim (λ d. (omega arith, omega arith)) (λ d. (omega arith, omega arith)) b) a)
     (size-cases v)
 
+pub size-small : (v : ℕ) → v < 2 ^ 30 → encodedSize v ≤ 4
+size-small v h =
+    ⊎-elim (λ a. omega (arith, size-one v a))
+    (λ a. ⊎-elim (λ b. omega (arith, size-two v a b)) (λ b. omega (arith, size-four v a b h)) (order v (2 ^ 14)))
+    (order v (2 ^ 6))
+
 pub length-encode : (v : ℕ) → length (encode v) ≡ encodedSize v
 unfolding encodedSize
 length-encode v = refl
