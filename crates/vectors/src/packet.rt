@@ -2,6 +2,7 @@
 use answer::Answer;
 use capsule_write::CAPSULE_ROOM;
 use lists::ADDRESS_WORDS;
+use lists::MAX_ADDRESSES;
 use state::GIVEN_AT;
 use state::STATE_WORDS;
 use template::MAX_PACKET;
@@ -253,7 +254,7 @@ fn longest_packet() -> [u8; MAX_PACKET] {
 // The same with a list whose count is over the limit.
 fn broken(state: &[u64; STATE_WORDS]) -> [u64; STATE_WORDS] {
     let mut words = *state;
-    words[GIVEN_AT] = 17;
+    words[GIVEN_AT] = MAX_ADDRESSES as u64 + 1;
     words
 }
 

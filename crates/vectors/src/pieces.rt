@@ -66,8 +66,13 @@ fn skipped() {
 fn too_long() {
     let mut state = [0u64; STATE_WORDS];
     let mut kept = [0u8; KEPT_SIZE];
-    piece(b"half a length", &mut state, &mut kept, b"\x01\x50");
-    piece(b"length 4097", &mut state, &mut kept, b"\x01");
+    piece(
+        b"all but a byte of a length",
+        &mut state,
+        &mut kept,
+        b"\x01\x80\x00\x40",
+    );
+    piece(b"length 16385", &mut state, &mut kept, b"\x01");
     piece(b"after it", &mut state, &mut kept, b"\x01\x00");
 }
 
