@@ -6,7 +6,7 @@ use mathlib.Core.Path.{_≡_, refl, sym, ap, _∙_}
 use mathlib.Core.List.{List}
 use native.Mathlib.Omega.{arith}
 use borrow.Author.Tests.{ne-eqb}
-use lib.ListN.{length, drop}
+use lib.ListN.{length}
 use Rattle.answer.specs.declared.Refusal.{Refusal}
 use Rattle.answer.specs.declared.Refusal.the-variants.{BrokenState}
 use Rattle.answer.specs.declared.Verdict.{Verdict}
@@ -19,8 +19,8 @@ use Rattle.capsule.specs.declared.CapsuleRead.{CapsuleRead}
 use Rattle.capsule.specs.declared.list.EntriesRead.{EntriesRead}
 use Rattle.capsule.specs.declared.list.RangesRead.{RangesRead}
 use Rattle.capsule.specs.Elements.{Parsed, fault, all, parsedVerdict, elementsOf}
-use Rattle.capsule.specs.Capsules.{maxValue, assign, request, advertise, listed, entriesIn, rangesIn, readValue, readCapsule}
-use Rattle.capsule.specs.Results.{otherKind, refusedAt, judgedAt, resultAt, readAt, frameIn, valueVerdict, entriesResult, rangesResult}
+use Rattle.capsule.specs.Capsules.{maxValue, assign, request, advertise, listed, entriesIn, rangesIn, readValue}
+use Rattle.capsule.specs.Results.{otherKind, refusedAt, judgedAt, readAt, frameIn, valueVerdict, entriesResult, rangesResult}
 use Rattle.capsule.proofs.ValueCases as Value
 use Rattle.state.specs.State.{stateIn, soundState}
 use Rattle.exchange.specs.Reading.{receiveAddresses, receiveRoutes, received, requested, readingIn, receivedValue, requestedValue}
@@ -171,6 +171,14 @@ module _ (w s : List ℕ) (at : ℕ) (l : List ℕ) where
         state = t .state ∙ sym (ap (received w) q ∙ b .0);
         requested = t .requested ∙ sym (ap (requested l) q ∙ b .1);
       }
+
+  -- a frame that is refused or of no list
+  pub read-plain : {f : CapsuleRead} → f ≡ frameIn s at → (f .kind ≡ 1 → ⊥) → (f .kind ≡ 2 → ⊥) → (f .kind ≡ 3 → ⊥) → TakesCapsule w s at l f w l
+  read-plain {f} e a b c = by (f .verdict) refl
+    where
+      by : (v : Verdict) → f .verdict ≡ v → TakesCapsule w s at l f w l
+      by (Stop why) g = read-refused e g
+      by Go g = read-taken (Value.found s at f e g) (takes-nothing w (Value.valueIn s f) f at l a b c)
 
   -- the state is judged first
   pub read-broken : {r : CapsuleRead} → soundState (stateIn w) ≡ false → r ≡ refusedAt at BrokenState → ReadsCapsule w s at l r w l

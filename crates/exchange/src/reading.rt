@@ -22,6 +22,14 @@ pub fn read_capsule(
     if !state::state_sound(state) {
         return capsule::refused(Refusal::BrokenState, at);
     }
+    let found = capsule::frame(bytes, at);
+    // all that has no list is done with here, before a function that has room for one on its stack
+    if found.kind == 0 {
+        return found;
+    }
+    if 3 < found.kind {
+        return found;
+    }
     take_capsule(state, bytes, at, requested)
 }
 

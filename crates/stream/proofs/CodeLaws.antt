@@ -2,7 +2,7 @@
 use Prim.Native.Nat.{ℕ, _+_, _-_, _≤_, _<_, min}
 use mathlib.Core.Bool.{Bool, true, false}
 use mathlib.Core.Path.{_≡_, refl, sym, ap, _∙_}
-use mathlib.Core.List.{List, [], _∷_, _++_, append-assoc, append-nil}
+use mathlib.Core.List.{List, [], _∷_, _++_, append-assoc}
 use mathlib.Core.Logic.{inr, ⊎-elim}
 use native.Mathlib.Omega.{arith}
 use borrow.Author.Tests.{lt-ltb, le-ltb}
@@ -185,6 +185,14 @@ settles-go e h = rw e h
 pub settles-stop : {v : Verdict} {why : Refusal} (kind n : ℕ) {w later : List ℕ} {r : Piece} → v ≡ Stop why → Refuses why w r later → Settles v kind n w r later
 settles-stop kind n e h = rw e h
 
+-- a list is read from a copy of the kept bytes and those given
+module _ (kept bytes : List ℕ) {n : ℕ} {space after : List ℕ} (p : Put (kept ++ bytes) 0 space n after) where
+  pub copy-size : length kept + length bytes ≤ keptSize → n ≤ keptSize
+  copy-size h = omega (arith, p .place, length-append kept bytes)
+
+  pub copy-taken : {w l later list : List ℕ} {r : CapsuleRead} → TakesCapsule w (take n after) 0 l r later list → TakesCapsule w (kept ++ bytes) 0 l r later list
+  copy-taken t = rw (p .front) at t
+
 -- nothing is kept
 pub none-kept : (held bytes : List ℕ) {n : ℕ} → n ≡ 0 → bytes ≡ take n held ++ bytes
 none-kept held bytes e = ap (λ (n : ℕ). take n held ++ bytes) (sym e)
@@ -197,7 +205,7 @@ module _ {w held : List ℕ} (rd : Collecting w held) where
   idle : Idle (storeIn w held)
   idle = record { sound = rd .sound; skip = rd .live .skip; stopped = ap rememberedBy (rd .live .stopped) }
 
-  pub kept-size : length kept ≡ getD w storeAt 0
+  kept-size : length kept ≡ getD w storeAt 0
   kept-size = length-take-le (getD w storeAt 0) held (omega (arith, rd .within, rd .room))
 
   kept-same : held ≡ kept ++ drop (length kept) held
@@ -207,14 +215,7 @@ module _ {w held : List ℕ} (rd : Collecting w held) where
   refuses-moves {why} f =
       record { answer = f .answer; state = f .state ∙ words-stopped w (rd .live .size) why (length kept) (getD w (storeAt + 1) 0) (sym kept-size) refl }
 
-  -- ---- a capsule that holds a list, read from a copy
-  module _ (bytes : List ℕ) (fits : length bytes + getD w storeAt 0 ≤ keptSize) where
-    pub copy-fits : length kept + length bytes ≤ keptSize
-    copy-fits = omega (arith, kept-size)
-
-    pub copy-size : {space after : List ℕ} {n : ℕ} → Put (kept ++ bytes) 0 space n after → n ≤ keptSize
-    copy-size p = omega (arith, copy-fits, p .place, length-append kept bytes)
-
+  -- ---- a capsule that holds a list
   module _ (bytes : List ℕ) (x : OneList (kept ++ bytes)) where
     no-bytes : (c : Capsule) {v : List ℕ} → Taken (x .kind) v c → datagramBytes c ≡ []
     no-bytes c (is-datagram k) = absurd (omega (arith, x .known .0))
@@ -230,7 +231,7 @@ module _ {w held : List ℕ} (rd : Collecting w held) where
     list-read c a z e = fed-reading idle bytes (capsule c a z) e
 
     -- no bytes are handed out or kept
-    pub list-leaves : (onOut datagramBytes [] (fed w held bytes .said) ≡ []) × (held ≡ fed w held bytes .store .kept ++ drop (length (fed w held bytes .store .kept)) held)
+    list-leaves : (onOut datagramBytes [] (fed w held bytes .said) ≡ []) × (held ≡ fed w held bytes .store .kept ++ drop (length (fed w held bytes .store .kept)) held)
     list-leaves = of (readCapsule (kept ++ bytes)) refl
       where
         of : (q : Reading) → readCapsule (kept ++ bytes) ≡ q
@@ -238,7 +239,7 @@ module _ {w held : List ℕ} (rd : Collecting w held) where
         of (refused why) e = rw (list-refused why e) (refl, kept-same)
         of (capsule c a z) e = rw (list-read c a z e) (no-bytes c (list-ends x c a z e .1), refl)
 
-    pub list-finished : (u l : List ℕ) {read : CapsuleRead} {after list later : List ℕ} {r : Piece} → u ≡ kept ++ bytes → TakesCapsule w u 0 l read after list
+    list-finished : (u l : List ℕ) {read : CapsuleRead} {after list later : List ℕ} {r : Piece} → u ≡ kept ++ bytes → TakesCapsule w u 0 l read after list
         → Settles (read .verdict) (read .kind) (length bytes) after r later → Lists (fed w held bytes) w l r later list
     list-finished u l {read} {after} {list} {later} {r} eu t f = of (readCapsule (kept ++ bytes)) refl
       where
@@ -323,22 +324,29 @@ module _ {w held : List ℕ} (rd : Collecting w held) where
         sum : length kept + n ≡ start + len
         sum = omega (arith, kept-size, ends (inr short))
 
-        pub whole-fits : length (take n t) + getD w storeAt 0 ≤ keptSize
-        whole-fits = omega (arith, bounds .0, ends (inr short), length-take-le n t there)
+        pub whole-fits : length kept + length (take n t) ≤ keptSize
+        whole-fits = omega (arith, sum, bounds .0, length-take-le n t there)
 
         pub value-fits : (space : List ℕ) → maxValue ≤ length space → (start ≤ length kept + length (take n t)) × (length kept + length (take n t) ≤ start + length space)
         value-fits space b = (omega (arith, sum, length-take-le n t there), omega (arith, sum, length-take-le n t there))
 
-        pub whole-list : (kind ≡ 0 → ⊥) → kind ≤ 3 → OneList (kept ++ take n t)
+        whole-list : (kind ≡ 0 → ⊥) → kind ≤ 3 → OneList (kept ++ take n t)
         whole-list z a =
             let p : 0 < kind = ⊎-elim (λ q. q) (λ q. absurd (z (omega arith))) (order 0 kind) in
             front-list idle t kind start len front (inr short) n sum there p a
 
-        pub goes-list : {before l : List ℕ} {r : Piece} {later list : List ℕ} → (kind ≡ 0 → ⊥) → kind ≤ 3 → Lists (fed w held (take n t)) w l r later list → Called before l r later held before list
+        goes-list : {before l : List ℕ} {r : Piece} {later list : List ℕ} → (kind ≡ 0 → ⊥) → kind ≤ 3 → Lists (fed w held (take n t)) w l r later list → Called before l r later held before list
         goes-list z a f =
             let p = list-leaves (take n t) (whole-list z a) in
             rw (fed-front idle t kind start len front (inr short) n sum there)
             (record { moves = f .moves; bytes = p .1; output = sym (rw (p .0)); requested = f .requested })
+
+        -- read where it lies, or from a copy u
+        pub goes-read : {before u l : List ℕ} {read : CapsuleRead} {after list later : List ℕ} {r : Piece} → (kind ≡ 0 → ⊥) → kind ≤ 3 → u ≡ kept ++ take n t
+            → TakesCapsule w u 0 l read after list → Settles (read .verdict) (read .kind) n after r later → Called before l r later held before list
+        goes-read {before} {u} {l} {read} {after} {list} {later} {r} z a eu f g =
+            let q : Settles (read .verdict) (read .kind) (length (take n t)) after r later = rw (length-take-le n t there) g in
+            goes-list z a (list-finished (take n t) (whole-list z a) u l eu f q)
 
         pub goes-datagram : {before l : List ℕ} {r : Piece} {later after : List ℕ} {m : ℕ} → kind ≡ 0 → Put (drop start (kept ++ take n t)) 0 before m after → HandsOut 0 m n w r later
             → Called before l r later held after l

@@ -111,9 +111,3 @@ pub record OneList (s : List ℕ) : Type 0 where
   pub frame : frameOf s ≡ Value kind start count
   pub ends : start + count ≡ length s
   pub known : (0 < kind) × (kind ≤ 3)
-
--- a list whose last bytes are given
-pub record ListThere (w held bytes : List ℕ) : Type 0 where
-  pub ready : Collecting w held
-  pub fits : length bytes + getD w storeAt 0 ≤ keptSize
-  pub one : OneList (take (getD w storeAt 0) held ++ bytes)

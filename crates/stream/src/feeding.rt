@@ -22,9 +22,10 @@ ghost use Rattle.output.specs.Places.{Put};
 ghost use Rattle.capsule.specs.Capsules.{maxValue};
 ghost use Rattle.capsule.specs.Heads.{headSize, HeadRead};
 ghost use Rattle.state.specs.State.{storeAt, stateWords};
+ghost use Rattle.exchange.specs.Reading.{TakesCapsule};
 ghost use Rattle.stream.specs.Store.{onSkip};
-ghost use Rattle.stream.specs.Feeding.{Feeds, fed};
-ghost use Rattle.stream.specs.Inner.{refusing, Refuses, HandsOut, Settles, Moves, Keeps, Lists, Goes, keepsAll, Live, Collecting, ListThere};
+ghost use Rattle.stream.specs.Feeding.{keptSize, Feeds, fed};
+ghost use Rattle.stream.specs.Inner.{refusing, Refuses, HandsOut, Settles, Moves, Keeps, Goes, keepsAll, Live, Collecting};
 
 // What a call says: 0 with a capsule of a kind, and how many bytes of its value stand in the output; 0 between capsules; 1, in a capsule; or any
 // other number.
@@ -124,7 +125,12 @@ fn feed_open(
                 let n = hand_value(&kept[..count], &bytes[..need], start, out);
                 return hand_out(state, 0, n, need);
             }
-            finish_list(state, kept, &bytes[..need], requested)
+            if count == 0 {
+                let read = exchange::take_capsule(state, &bytes[..need], 0, requested);
+                return settle(state, read, need);
+            }
+            let read = take_cut(state, &kept[..count], &bytes[..need], requested);
+            settle(state, read, need)
         }
         Head::Cut => keep(state, kept, bytes),
     }
@@ -246,26 +252,21 @@ fn hand_value(kept: &[u8], bytes: &[u8], start: usize, out: &mut [u8]) -> usize
     gather(&kept[start..], bytes, out)
 }
 
-// A list whose last bytes are given: one that was cut is read from a copy, so that a refusal leaves the kept bytes as they were.
-fn finish_list(
+// A list that was cut is read from a copy, so that a refusal leaves the kept bytes as they were. It stands apart, so that a DATAGRAM, or a list given
+// whole, does not touch the stack of the copy.
+fn take_cut(
     state: &mut [u64; STATE_WORDS],
     kept: &[u8],
     bytes: &[u8],
     requested: &mut [u64; ADDRESS_WORDS],
-) -> Piece
-    requires { ⌜ ListThere (now state) (now kept) (now bytes) ⌝ }
-    ensures { λ r. ⌜ Lists (fed (now (state .entry)) (now (kept .entry)) (now (bytes .entry))) (now (state .entry)) (now (requested .entry)) r
-        (now (state .exit)) (now (requested .exit)) ⌝ }
+) -> CapsuleRead
+    requires { ⌜ length (now kept) + length (now bytes) ≤ keptSize ⌝ }
+    ensures { λ r. ⌜ TakesCapsule (now (state .entry)) (now (kept .entry) ++ now (bytes .entry)) 0 (now (requested .entry)) r (now (state .exit))
+        (now (requested .exit)) ⌝ }
 {
-    let count = state[STORE_AT] as usize;
-    if count == 0 {
-        let read = exchange::take_capsule(state, bytes, 0, requested);
-        return settle(state, read, bytes.len());
-    }
     let mut space = [0u8; KEPT_SIZE];
-    let n = gather(&kept[..count], bytes, &mut space);
-    let read = exchange::take_capsule(state, &space[..n], 0, requested);
-    settle(state, read, bytes.len())
+    let n = gather(kept, bytes, &mut space);
+    exchange::take_capsule(state, &space[..n], 0, requested)
 }
 
 // What a list that was read leaves of the store.

@@ -86,11 +86,35 @@ same-length-5 c = search needs
 returns-4 : tie.Need-returns-4
 returns-4 c = Code.goes-datagram (c .before .before .before .before .before .before .before .before .before .before .before .before .before .before .before .before .before .before .before .before .before .pre .0) (c .before .before .before .before .before .before .before .before .before .before .before .before .before .before .before .before .before .before .before .before .before .args .bytes .now) (c .before .before .before .before .before .before .before .before .before .before .before .before .before .before .before .head-over .ensures) (c .before .before .before .before .before .before .before .before .before .before .before .before .before .h .given .1) _ refl (c .before .before .before .before .before .before .before .before .before .if3 .left) (c .before .before .before .before .before .before .before .before .before .before .if2 .left) (c .before .before .before .before .before .before .before .before .if4 .taken) (c .before .before .before .before .hand-value .ensures) (c .hand-out .ensures)
 
-slice-aggregate-finish-list : tie.Need-slice-aggregate-finish-list
-slice-aggregate-finish-list c = sym (length-take-le _ _ (omega (arith, c .before .before .before .before .if3 .left)))
+slice-aggregate-take-capsule : tie.Need-slice-aggregate-take-capsule
+slice-aggregate-take-capsule c = sym (length-take-le _ _ (omega (arith, c .before .before .before .before .if3 .left)))
 
-finish-list-requires : tie.Need-finish-list-requires
-finish-list-requires c κs = record { ready = c .before .before .before .before .before .before .before .before .before .before .before .before .before .before .before .before .before .pre .0; fits = Code.whole-fits (c .before .before .before .before .before .before .before .before .before .before .before .before .before .before .before .before .before .pre .0) (c .before .before .before .before .before .before .before .before .before .before .before .before .before .before .before .before .before .args .bytes .now) (c .before .before .before .before .before .before .before .before .before .before .before .head-over .ensures) (c .before .before .before .before .before .before .before .before .before .h .given .1) _ refl (c .before .before .before .before .before .if3 .left) (c .before .before .before .before .before .before .if2 .left); one = Code.whole-list (c .before .before .before .before .before .before .before .before .before .before .before .before .before .before .before .before .before .pre .0) (c .before .before .before .before .before .before .before .before .before .before .before .before .before .before .before .before .before .args .bytes .now) (c .before .before .before .before .before .before .before .before .before .before .before .head-over .ensures) (c .before .before .before .before .before .before .before .before .before .h .given .1) _ refl (c .before .before .before .before .before .if3 .left) (c .before .before .before .before .before .before .if2 .left) (c .before .before .before .before .if4 .left) (c .before .before .before .before .before .before .before .if1 .left) }
+take-capsule-requires : tie.Need-take-capsule-requires
+take-capsule-requires c κs = search needs
+
+settle-requires : tie.Need-settle-requires
+settle-requires c κs = search needs
+
+same-length-6 : tie.Need-same-length-6
+same-length-6 c = search needs
+
+returns-5 : tie.Need-returns-5
+returns-5 c = let s = c .before .before .before .before .before .before .before .before .before .before .before .before .before .before .before .before .before .before .before .before in Code.goes-read (s .pre .0) (s .args .bytes .now) (c .before .before .before .before .before .before .before .before .before .before .before .before .before .before .head-over .ensures) (c .before .before .before .before .before .before .before .before .before .before .before .before .h .given .1) _ refl (c .before .before .before .before .before .before .before .before .if3 .left) (c .before .before .before .before .before .before .before .before .before .if2 .left) (c .before .before .before .before .before .before .before .if4 .left) (c .before .before .before .before .before .before .before .before .before .before .if1 .left) (Code.none-kept (s .args .kept .now) _ (c .before .before .before .before .before .before .if5 .taken)) (c .before .before .take-capsule .ensures) (c .settle .ensures)
+
+slice-reshare-prefix-take-cut : tie.Need-slice-reshare-prefix-take-cut
+slice-reshare-prefix-take-cut c = search needs
+
+slice-aggregate-take-cut : tie.Need-slice-aggregate-take-cut
+slice-aggregate-take-cut c = sym (length-take-le _ _ (omega (arith, c .before .before .before .before .before .before .before .before .before .before .before .before .before .before .before .before .pre .0 .within, c .before .before .before .before .before .before .before .before .before .before .before .before .before .before .before .before .pre .0 .room)))
+
+slice-aggregate-take-cut-2 : tie.Need-slice-aggregate-take-cut-2
+slice-aggregate-take-cut-2 c = sym (length-take-le _ _ (omega (arith, c .before .before .before .before .before .if3 .left)))
+
+take-cut-requires : tie.Need-take-cut-requires
+take-cut-requires c κs = let s = c .before .before .before .before .before .before .before .before .before .before .before .before .before .before .before .before .before .before in Code.whole-fits (s .pre .0) (s .args .bytes .now) (c .before .before .before .before .before .before .before .before .before .before .before .before .head-over .ensures) (c .before .before .before .before .before .before .before .before .before .before .h .given .1) _ refl (c .before .before .before .before .before .before .if3 .left) (c .before .before .before .before .before .before .before .if2 .left)
+
+settle-requires-2 : tie.Need-settle-requires-2
+settle-requires-2 c κs = search needs
 
 enum-told : tie.Need-enum-told
 enum-told c = search needs
@@ -98,17 +122,17 @@ enum-told c = search needs
 keep-requires-2 : tie.Need-keep-requires-2
 keep-requires-2 c κs = (c .before .before .before .before .before .before .before .before .before .before .pre .0 .live, Code.cut-fits (c .before .before .before .before .before .before .before .before .before .before .pre .0) (c .before .before .before .before .before .before .before .before .before .before .args .bytes .now) (c .before .before .before .before .head-over .ensures) (c .before .before .enum-told .given .1))
 
-same-length-6 : tie.Need-same-length-6
-same-length-6 c = search needs
-
-returns-5 : tie.Need-returns-5
-returns-5 c = Code.goes-list (c .before .before .before .before .before .before .before .before .before .before .before .before .before .before .before .before .before .before .pre .0) (c .before .before .before .before .before .before .before .before .before .before .before .before .before .before .before .before .before .before .args .bytes .now) (c .before .before .before .before .before .before .before .before .before .before .before .before .head-over .ensures) (c .before .before .before .before .before .before .before .before .before .before .h .given .1) _ refl (c .before .before .before .before .before .before .if3 .left) (c .before .before .before .before .before .before .before .if2 .left) (c .before .before .before .before .before .if4 .left) (c .before .before .before .before .before .before .before .before .if1 .left) (c .finish-list .ensures)
-
 same-length-7 : tie.Need-same-length-7
 same-length-7 c = search needs
 
 returns-6 : tie.Need-returns-6
-returns-6 c = Code.cut-keeps (c .before .before .before .before .before .before .before .before .before .before .before .before .before .pre .0) (c .before .before .before .before .before .before .before .before .before .before .before .before .before .args .bytes .now) (c .before .before .before .before .before .before .before .head-over .ensures) (c .before .before .before .before .before .enum-told .given .1) (c .before .before .keep2 .ensures)
+returns-6 c = let s = c .before .before .before .before .before .before .before .before .before .before .before .before .before .before .before .before .before .before .before .before .before in Code.goes-read (s .pre .0) (s .args .bytes .now) (c .before .before .before .before .before .before .before .before .before .before .before .before .before .before .before .head-over .ensures) (c .before .before .before .before .before .before .before .before .before .before .before .before .before .h .given .1) _ refl (c .before .before .before .before .before .before .before .before .before .if3 .left) (c .before .before .before .before .before .before .before .before .before .before .if2 .left) (c .before .before .before .before .before .before .before .before .if4 .left) (c .before .before .before .before .before .before .before .before .before .before .before .if1 .left) refl (c .before .before .take-cut .ensures) (c .settle2 .ensures)
+
+same-length-8 : tie.Need-same-length-8
+same-length-8 c = search needs
+
+returns-7 : tie.Need-returns-7
+returns-7 c = Code.cut-keeps (c .before .before .before .before .before .before .before .before .before .before .before .before .before .pre .0) (c .before .before .before .before .before .before .before .before .before .before .before .before .before .args .bytes .now) (c .before .before .before .before .before .before .before .head-over .ensures) (c .before .before .before .before .before .enum-told .given .1) (c .before .before .keep2 .ensures)
 
 pub feed-open-spec : {M : Type 1} → statement M
 feed-open-spec =
@@ -140,11 +164,19 @@ feed-open-spec =
     same-length-4
     same-length-5
     returns-4
-    slice-aggregate-finish-list
-    finish-list-requires
-    enum-told
-    keep-requires-2
+    slice-aggregate-take-capsule
+    take-capsule-requires
+    settle-requires
     same-length-6
     returns-5
+    slice-reshare-prefix-take-cut
+    slice-aggregate-take-cut
+    slice-aggregate-take-cut-2
+    take-cut-requires
+    settle-requires-2
+    enum-told
+    keep-requires-2
     same-length-7
-    returns-6)
+    returns-6
+    same-length-8
+    returns-7)
