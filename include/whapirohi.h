@@ -23,8 +23,8 @@ extern "C" {
  * 5 words a range (version + 256 * protocol; start, high and low half; end, high and low half). An IPv4 address stands in the low half.
  * Bits above those two bytes, and words past the count, mean nothing; they are 0 in a list that the box makes. */
 enum {
-    WHAPIROHI_MAX_ADDRESSES = 16,
-    WHAPIROHI_MAX_RANGES = 64,
+    WHAPIROHI_MAX_ADDRESSES = 32,
+    WHAPIROHI_MAX_RANGES = 256,
     WHAPIROHI_ADDRESS_WORDS = 1 + 4 * WHAPIROHI_MAX_ADDRESSES,
     WHAPIROHI_ROUTE_WORDS = 1 + 5 * WHAPIROHI_MAX_RANGES
 };
@@ -39,7 +39,7 @@ enum {
 };
 
 /* The most bytes of a packet and of a capsule's value, and the room for a capsule's type and length. */
-enum { WHAPIROHI_MAX_PACKET = 1500, WHAPIROHI_MAX_VALUE = 4096, WHAPIROHI_HEADER_ROOM = 8 };
+enum { WHAPIROHI_MAX_PACKET = 1500, WHAPIROHI_MAX_VALUE = 16384, WHAPIROHI_HEADER_ROOM = 8 };
 
 /* The bytes of an unfinished capsule that whapirohi_feed keeps between calls: a value, and type and length in their longest forms. */
 enum { WHAPIROHI_KEPT_SIZE = WHAPIROHI_MAX_VALUE + 16 };

@@ -5,7 +5,7 @@ use crate::number::{self, parse};
 use crate::{AddressEntry, AddressList, Refusal, RequestId, RouteList, RouteRange};
 
 /// The largest value of a capsule of types 0 to 3.
-pub const MAX_VALUE: usize = 4096;
+pub const MAX_VALUE: usize = 16384;
 
 /// The room for type and length.
 const HEADER_ROOM: usize = 8;
@@ -41,9 +41,17 @@ pub fn read_capsule(bytes: &[u8], at: usize) -> Result<(Capsule, usize), Refusal
     let frame = Frame::read(bytes, at)?;
     let capsule = match frame.kind {
         DATAGRAM => Capsule::Datagram { start: frame.start, length: frame.value.len() },
-        ADDRESS_ASSIGN => Capsule::Assign(read_assign(frame.value)?),
+        ADDRESS_ASSIGN => {
+            let mut list = AddressList::default();
+            read_assign(frame.value, &mut list)?;
+            Capsule::Assign(list)
+        }
         ADDRESS_REQUEST => Capsule::Request(read_request(frame.value)?),
-        ROUTE_ADVERTISEMENT => Capsule::Routes(read_routes(frame.value)?),
+        ROUTE_ADVERTISEMENT => {
+            let mut list = RouteList::default();
+            read_routes(frame.value, &mut list)?;
+            Capsule::Routes(list)
+        }
         _ => Capsule::Skipped,
     };
     Ok((capsule, frame.next()))
@@ -108,7 +116,8 @@ impl<'a> Frame<'a> {
     }
 }
 
-pub(crate) fn read_assign(mut value: &[u8]) -> Result<AddressList, Refusal> {
+/// Replaces a list with the one that was read; a refusal leaves it.
+pub(crate) fn read_assign(mut value: &[u8], held: &mut AddressList) -> Result<(), Refusal> {
     let mut list = AddressList::default();
     while !value.is_empty() {
         let (entry, rest) = read_entry(value).ok_or(Refusal::BadAddress)?;
@@ -121,26 +130,30 @@ pub(crate) fn read_assign(mut value: &[u8]) -> Result<AddressList, Refusal> {
     if list.too_long() {
         return Err(Refusal::ListTooLong);
     }
-    Ok(list)
+    *held = list;
+    Ok(())
 }
 
 /// Request IDs differ among all entries, also among those past the limit.
 pub(crate) fn read_request(mut value: &[u8]) -> Result<AddressList, Refusal> {
     let mut list = AddressList::default();
-    let mut ids = [RequestId(0); MAX_VALUE / LEAST_ENTRY];
+    let mut ids = Vec::with_capacity(value.len() / LEAST_ENTRY);
     while !value.is_empty() {
-        let (entry, rest) = read_entry(value).ok_or(Refusal::BadAddress)?;
-        if entry.request_id.0 == 0 || ids[..list.count].contains(&entry.request_id) {
+        let Some((entry, rest)) = read_entry(value) else {
+            // Two equal IDs before it are the earlier fault.
+            return Err(if repeats(&mut ids) { Refusal::BadRequestId } else { Refusal::BadAddress });
+        };
+        if entry.request_id.0 == 0 {
             return Err(Refusal::BadRequestId);
         }
-        ids[list.count] = entry.request_id;
+        ids.push(entry.request_id);
         if list.count < MAX_ADDRESSES {
             list.items[list.count] = entry;
         }
         list.count += 1;
         value = rest;
     }
-    if list.count == 0 {
+    if list.count == 0 || repeats(&mut ids) {
         return Err(Refusal::BadRequestId);
     }
     if list.too_long() {
@@ -149,7 +162,14 @@ pub(crate) fn read_request(mut value: &[u8]) -> Result<AddressList, Refusal> {
     Ok(list)
 }
 
-pub(crate) fn read_routes(mut value: &[u8]) -> Result<RouteList, Refusal> {
+/// Whether two are equal; they are sorted for that.
+fn repeats(ids: &mut [RequestId]) -> bool {
+    ids.sort_unstable();
+    ids.windows(2).any(|pair| pair[0] == pair[1])
+}
+
+/// As `read_assign`.
+pub(crate) fn read_routes(mut value: &[u8], held: &mut RouteList) -> Result<(), Refusal> {
     let mut list = RouteList::default();
     let mut previous: Option<RouteRange> = None;
     while !value.is_empty() {
@@ -167,7 +187,8 @@ pub(crate) fn read_routes(mut value: &[u8]) -> Result<RouteList, Refusal> {
     if list.too_long() {
         return Err(Refusal::ListTooLong);
     }
-    Ok(list)
+    *held = list;
+    Ok(())
 }
 
 /// A sound entry and what follows it.

@@ -76,12 +76,12 @@ impl Grants {
         Ok(match frame.kind {
             DATAGRAM => Event::Datagram { start: frame.start, length: frame.value.len() },
             ADDRESS_ASSIGN => {
-                self.received_addresses = read_assign(frame.value)?;
+                read_assign(frame.value, &mut self.received_addresses)?;
                 Event::Assigned
             }
             ADDRESS_REQUEST => Event::Requested(read_request(frame.value)?),
             ROUTE_ADVERTISEMENT => {
-                self.received_routes = read_routes(frame.value)?;
+                read_routes(frame.value, &mut self.received_routes)?;
                 Event::Advertised
             }
             _ => Event::Skipped,

@@ -2,8 +2,8 @@
 //!
 //! Written from the paper alone, so that the proved library can be tested and measured against it. Every entry point answers
 //! `Result<_, Refusal>`; a refusal alters nothing that was lent, but a stream remembers it. Nothing is allocated but the bytes of an
-//! unfinished capsule. Fields are public, so that a state that breaks its own rules can be handed in: each entry point tests that itself
-//! (number 9).
+//! unfinished capsule and, while a request is read, its IDs. Fields are public, so that a state that breaks its own rules can be handed in:
+//! each entry point tests that itself (number 9).
 #![forbid(unsafe_code)]
 
 pub mod capsule;

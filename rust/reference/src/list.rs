@@ -4,8 +4,8 @@ use crate::number::MAX_NUMBER;
 use crate::packet::width;
 use crate::Refusal;
 
-pub const MAX_ADDRESSES: usize = 16;
-pub const MAX_RANGES: usize = 64;
+pub const MAX_ADDRESSES: usize = 32;
+pub const MAX_RANGES: usize = 256;
 
 /// A list of at most `N` items; more where `count` says so is a list that breaks its rules.
 #[derive(Clone, Copy, Debug, PartialEq, Eq)]
@@ -36,7 +36,7 @@ impl<T, const N: usize> List<T, N> {
     }
 }
 
-#[derive(Clone, Copy, Debug, Default, PartialEq, Eq)]
+#[derive(Clone, Copy, Debug, Default, PartialEq, Eq, PartialOrd, Ord)]
 pub struct RequestId(pub u64);
 
 /// An address with its prefix; an IPv4 address is the number of its four bytes.

@@ -1,6 +1,6 @@
 //! The drivers' examples of the paper, and the numbers of RFC 9000 appendix A.1.
 
-use whapirohi_reference::capsule::CAPSULE_ROOM;
+use whapirohi_reference::capsule::{CAPSULE_ROOM, MAX_VALUE};
 use whapirohi_reference::list::{MAX_ADDRESSES, MAX_RANGES};
 use whapirohi_reference::packet::{self, Header};
 use whapirohi_reference::plan::PLAN_ROOM;
@@ -22,6 +22,11 @@ fn entry(address: &str, prefix: u8) -> AddressEntry {
 
 fn range(start: &str, end: &str, protocol: u8) -> RouteRange {
     RouteRange { version: 4, protocol, start: ipv4(start), end: ipv4(end) }
+}
+
+/// The length in its form of 4 bytes.
+fn capsule(kind: u8, value: &[u8]) -> Vec<u8> {
+    [&[kind][..], &(value.len() as u32 | 0x8000_0000).to_be_bytes(), value].concat()
 }
 
 fn list<T: Copy + Default, const N: usize>(items: &[T]) -> List<T, N> {
@@ -59,7 +64,7 @@ fn received(plan: &Plan, datagram: &[u8]) -> Result<Vec<u8>, Refusal> {
 
 #[test]
 fn rooms_of_the_paper() {
-    assert_eq!((SEND_ROOM, RECEIVE_ROOM, CAPSULE_ROOM, PLAN_ROOM), (1508, 1500, 4104, 1400));
+    assert_eq!((SEND_ROOM, RECEIVE_ROOM, CAPSULE_ROOM, PLAN_ROOM), (1508, 1500, 16392, 1400));
 }
 
 #[test]
@@ -160,14 +165,14 @@ fn sum_of_zero_is_ffff() {
 
 #[test]
 fn list_limits() {
-    let one = hex("00 04 C0 00 02 03 20");
-    let capsule = |count: usize| [&[1, 0x40, (7 * count) as u8][..], &one.repeat(count)].concat();
-    assert!(read_capsule(&capsule(MAX_ADDRESSES), 0).is_ok());
-    assert_eq!(read_capsule(&capsule(MAX_ADDRESSES + 1), 0), Err(Refusal::ListTooLong));
+    assert_eq!((MAX_ADDRESSES, MAX_RANGES), (32, 256));
+    let addresses = |count: usize| capsule(1, &hex("00 04 C0 00 02 03 20").repeat(count));
+    assert!(read_capsule(&addresses(MAX_ADDRESSES), 0).is_ok());
+    assert_eq!(read_capsule(&addresses(MAX_ADDRESSES + 1), 0), Err(Refusal::ListTooLong));
 
     let routes = |count: usize| {
-        let ranges = (0..count as u8).flat_map(|n| [4, 10, 0, 0, n, 10, 0, 0, n, 0]);
-        [3, 0x40 | ((10 * count) >> 8) as u8, (10 * count) as u8].into_iter().chain(ranges).collect::<Vec<u8>>()
+        let ranges = (0..count as u16).map(u16::to_be_bytes);
+        capsule(3, &ranges.flat_map(|[high, low]| [4, 10, 0, high, low, 10, 0, high, low, 0]).collect::<Vec<u8>>())
     };
     assert!(read_capsule(&routes(MAX_RANGES), 0).is_ok());
     assert_eq!(read_capsule(&routes(MAX_RANGES + 1), 0), Err(Refusal::ListTooLong));
@@ -231,25 +236,47 @@ fn plan_rules_in_order() {
 
 #[test]
 fn requests_look_at_every_entry() {
-    let entry = |id: u8| [id, 4, 192, 0, 2, 3, 32];
-    let capsule = |ids: &[u8]| {
-        let value: Vec<u8> = ids.iter().flat_map(|id| entry(*id)).collect();
-        [&[2, 0x40 | (value.len() >> 8) as u8, value.len() as u8][..], &value].concat()
+    let request = |ids: &[u16]| {
+        let ids = ids.iter().map(|id| (id | 0x4000).to_be_bytes());
+        capsule(2, &ids.flat_map(|[high, low]| [high, low, 4, 192, 0, 2, 3, 32]).collect::<Vec<u8>>())
     };
-    let ids: Vec<u8> = (1..=17).collect();
-    assert!(read_capsule(&capsule(&ids[..16]), 0).is_ok());
-    assert_eq!(read_capsule(&capsule(&ids), 0), Err(Refusal::ListTooLong));
-    assert_eq!(read_capsule(&capsule(&[&ids[..], &[17]].concat()), 0), Err(Refusal::BadRequestId));
-    assert_eq!(read_capsule(&capsule(&[1, 0]), 0), Err(Refusal::BadRequestId));
+    let refusal = |bytes: &[u8]| read_capsule(bytes, 0).unwrap_err();
+    let full = MAX_ADDRESSES as u16;
+    let most = (MAX_VALUE / 8) as u16;
+    let ids: Vec<u16> = (1..=most).collect();
+    assert!(read_capsule(&request(&ids[..MAX_ADDRESSES]), 0).is_ok());
+    assert_eq!(refusal(&request(&ids[..MAX_ADDRESSES + 1])), Refusal::ListTooLong);
+    assert_eq!(refusal(&request(&ids)), Refusal::ListTooLong);
+    for repeated in [1, full, full + 1, most - 1] {
+        let mut ids = ids.clone();
+        ids[usize::from(most) - 1] = repeated;
+        assert_eq!(refusal(&request(&ids)), Refusal::BadRequestId);
+        ids.rotate_right(1);
+        assert_eq!(refusal(&request(&ids)), Refusal::BadRequestId);
+    }
+    assert_eq!(refusal(&request(&[1, 0])), Refusal::BadRequestId);
+    assert_eq!(refusal(&request(&[])), Refusal::BadRequestId);
+}
+
+#[test]
+fn the_first_fault_of_a_request() {
+    let (first, bad) = ("01 04 C0 00 02 03 20", "05 04 C0 00 02 03 21");
+    let refusal = |entries: &[&str]| read_capsule(&capsule(2, &hex(&entries.concat())), 0).unwrap_err();
+    assert_eq!(refusal(&[first, first, bad]), Refusal::BadRequestId);
+    assert_eq!(refusal(&[first, bad, first]), Refusal::BadAddress);
+    assert_eq!(refusal(&[first, "00 04 C0 00 02 03 20", bad]), Refusal::BadRequestId);
+    assert_eq!(refusal(&[first, "00 04 C0 00 02 03 21"]), Refusal::BadAddress);
+    assert_eq!(refusal(&[first, "01 04 C0 00 02 03 21"]), Refusal::BadAddress);
+    assert_eq!(refusal(&[first, first, "05 04"]), Refusal::BadRequestId);
 }
 
 #[test]
 fn unknown_types_are_skipped() {
-    let long = [&[0x21, 0x60, 0x00][..], &[0; 8192]].concat();
+    let long = capsule(0x21, &[0; 2 * MAX_VALUE]);
     assert_eq!(read_capsule(&long, 0), Ok((Capsule::Skipped, long.len())));
     assert_eq!(read_capsule(&long[..long.len() - 1], 0), Err(Refusal::NotAllThere));
-    assert_eq!(read_capsule(&hex("00 5001"), 0), Err(Refusal::ValueTooLong));
-    assert_eq!(read_capsule(&hex("00 5000"), 0), Err(Refusal::NotAllThere));
+    assert_eq!(read_capsule(&hex("00 80004001"), 0), Err(Refusal::ValueTooLong));
+    assert_eq!(read_capsule(&hex("00 80004000"), 0), Err(Refusal::NotAllThere));
     assert_eq!(read_capsule(&[], 0), Err(Refusal::NotAllThere));
     assert_eq!(read_capsule(&[], usize::MAX), Err(Refusal::NotAllThere));
     assert_eq!(read_capsule(&hex("FF 00 02 AA BB"), 1), Ok((Capsule::Datagram { start: 3, length: 2 }, 5)));

@@ -107,7 +107,7 @@ fn same_as_whole(bytes: &[u8], pieces: &[&[u8]]) {
 
 #[test]
 fn limits_of_the_paper() {
-    assert_eq!((KEPT_LIMIT, FEED_ROOM), (4112, 4096));
+    assert_eq!((KEPT_LIMIT, FEED_ROOM), (16400, 16384));
 }
 
 #[test]
@@ -133,7 +133,7 @@ fn one_byte_at_a_time() {
 
 #[test]
 fn refusals_under_every_cut() {
-    for refused in ["00 5001", "01 03 00 05 00", "01 08 00 04 C0 00 02 03 20 00", "02 00", "03 01 04"] {
+    for refused in ["00 80004001", "01 03 00 05 00", "01 08 00 04 C0 00 02 03 20 00", "02 00", "03 01 04"] {
         let bytes = hex(&format!("01 00 {refused} 00 01 FF"));
         assert!(whole(&bytes).2.is_err());
         for first in 0..=bytes.len() {
@@ -185,7 +185,7 @@ fn skipped_values_are_counted_and_not_kept() {
 
 #[test]
 fn the_longest_capsule_is_kept() {
-    let mut bytes = hex("C000000000000000 C000000000001000");
+    let mut bytes = hex("C000000000000000 C000000000004000");
     bytes.resize(KEPT_LIMIT, 7);
     let mut end = End::default();
     for n in 0..KEPT_LIMIT - 1 {
@@ -193,16 +193,16 @@ fn the_longest_capsule_is_kept() {
     }
     assert_eq!(end.stream.kept.len(), KEPT_LIMIT - 1);
     let (piece, value) = end.call(&[7, 8, 9]);
-    assert_eq!(piece, Ok(Piece::Ended(Event::Datagram { start: 0, length: 4096 }, 1)));
-    assert_eq!(value, [7; 4096]);
+    assert_eq!(piece, Ok(Piece::Ended(Event::Datagram { start: 0, length: FEED_ROOM }, 1)));
+    assert_eq!(value, [7; FEED_ROOM]);
 }
 
 #[test]
 fn too_long_at_once_and_other_faults_at_the_end() {
     let mut end = End::default();
-    assert_eq!(end.feed(&hex("03 50")), Ok(Piece::Wait));
+    assert_eq!(end.feed(&hex("03 800040")), Ok(Piece::Wait));
     assert_eq!(end.feed(&hex("01")), Err(Refusal::ValueTooLong));
-    assert_eq!(end.stream, Stream { kept: hex("03 50"), to_skip: 0, refused: Some(Refusal::ValueTooLong) });
+    assert_eq!(end.stream, Stream { kept: hex("03 800040"), to_skip: 0, refused: Some(Refusal::ValueTooLong) });
 
     // The first of two entries is faulty, and is not looked at until the second is there.
     let mut end = End::default();
@@ -223,7 +223,7 @@ fn a_refusal_is_remembered_and_changes_nothing_else() {
     let refused = Stream { refused: Some(Refusal::ListTooLong), ..before.stream };
     let after = End { stream: refused, ..before };
     assert_eq!(end, after);
-    for bytes in ["", "20", "01 00", "00 5001"] {
+    for bytes in ["", "20", "01 00", "00 80004001"] {
         assert_eq!(end.feed(&hex(bytes)), Err(Refusal::ListTooLong));
         assert_eq!(end, after);
     }
@@ -260,18 +260,18 @@ fn a_stream_that_no_call_leaves_is_9() {
         stream("40", 0, None),
         stream("21", 0, None),
         stream("7BBD C00000", 0, None),
-        stream("03 5000 04", 0, Some(Refusal::RangesOutOfOrder)),
+        stream("03 80004000 04", 0, Some(Refusal::RangesOutOfOrder)),
         stream("", 1, None),
         stream("", (1 << 62) - 1, Some(Refusal::ValueTooLong)),
     ];
     assert!(sound.iter().all(Stream::sound));
-    let long = Stream { kept: [&hex("00 5000")[..], &[0; KEPT_LIMIT]].concat(), ..Stream::default() };
+    let long = Stream { kept: [&hex("00 80004000")[..], &[0; KEPT_LIMIT]].concat(), ..Stream::default() };
     let broken = [
         stream("00 00", 0, None),
         stream("21 00", 0, None),
         stream("21 05 DD", 0, None),
         stream("00 02 AA BB", 0, None),
-        stream("00 5001", 0, None),
+        stream("00 80004001", 0, None),
         stream("40", 1, None),
         stream("", 1 << 62, None),
         stream("", 0, Some(Refusal::NotAllThere)),

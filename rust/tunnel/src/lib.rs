@@ -12,8 +12,8 @@ mod library;
 pub use library::{kept_size, read_number, state_size, write_datagram, write_number, write_request};
 
 /// The limits of lists and plans.
-pub const MAX_ADDRESSES: usize = 16;
-pub const MAX_RANGES: usize = 64;
+pub const MAX_ADDRESSES: usize = 32;
+pub const MAX_RANGES: usize = 256;
 pub const MAX_TEMPLATES: usize = 8;
 pub const MAX_SEGMENTS: usize = 8;
 pub const STATIC_LIMIT: usize = 128;
@@ -29,7 +29,7 @@ pub const PLAN_WORDS: usize = 1 + MAX_TEMPLATES * TEMPLATE_WORDS;
 
 /// The most bytes of a packet, and of a capsule's value.
 pub const MAX_PACKET: usize = 1500;
-pub const MAX_VALUE: usize = 4096;
+pub const MAX_VALUE: usize = 16384;
 
 /// The room for a capsule's type and length, as they are written and at their longest.
 pub const HEADER_ROOM: usize = 8;

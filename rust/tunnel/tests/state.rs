@@ -7,9 +7,9 @@ use whapirohi_tunnel::{ADDRESS_WORDS, CAPSULE_ROOM, FEED_ROOM, KEPT_SIZE, RECEIV
 #[test]
 fn size_of_the_state() {
     assert_eq!(state_size(), size_of::<State>() as u64);
-    assert_eq!(state_size(), 15744);
+    assert_eq!(state_size(), 32128);
     assert_eq!(kept_size(), KEPT_SIZE as u64);
-    assert_eq!(kept_size(), 4112);
+    assert_eq!(kept_size(), 16400);
 }
 
 #[test]
@@ -24,7 +24,7 @@ fn a_stream_in_pieces() {
     assert_eq!(feed(b"\x01\x07\x00\x04\xC0"), Piece { taken: 5, ..wait });
     assert_eq!(feed(b"\x00\x02\x03\x20"), Piece { kind: 1, length: 0, taken: 4, ..ended });
     assert_eq!(feed(b""), Piece { number: 0, ..wait });
-    assert_eq!(feed(b"\x00\x50\x01"), Piece { number: 2, ..wait });
+    assert_eq!(feed(b"\x00\x80\x00\x40\x01"), Piece { number: 2, ..wait });
     assert_eq!(feed(b"\x01\x00"), Piece { number: 2, ..wait });
     assert_eq!(out[..4], [0xAA, 0xBB, 0xCC, 0]);
     assert_eq!(state.received_addresses[..5], [1, 0, 4 + 256 * 32, 0, 0xC000_0203]);
