@@ -3,16 +3,20 @@
 //! Both are called with a state that the host holds in the form each one likes (words, and the reference's types), and with outputs that are
 //! not cleared between calls. The median of several rounds is taken, in which the two take turns.
 
+use std::cell::RefCell;
 use std::hint::black_box;
 use std::time::{Duration, Instant};
+use whapirohi_bench::{
+    datagram_capsule, grants, ipv6_lists, numbered_entries, packet, plan, routes_capsule, shuffled_ids, Miss,
+    MOST_DIFFERENT, MOST_ENTRIES, MOST_OF_FOUR, SHORT_IDS,
+};
 use whapirohi_differential::subject::{Lent, Subject};
 use whapirohi_differential::words::{mirrored, state_of};
 use whapirohi_reference::list::{MAX_ADDRESSES, MAX_RANGES};
-use whapirohi_reference::packet::{complete, fold, put_word, seed, sum, MAX_PACKET};
+use whapirohi_reference::packet::MAX_PACKET;
 use whapirohi_reference::plan::MAX_TEMPLATES;
 use whapirohi_reference::{
-    receive, send, write_assign, write_datagram, write_routes, AddressEntry, AddressList, Checksum, ContextId, Grants,
-    List, Piece, Plan, RequestId, RouteList, RouteRange, Segment, Stream, Template,
+    receive, send, write_assign, write_datagram, write_request, AddressList, Grants, Piece, Plan, Stream,
 };
 use whapirohi_tunnel::{State, ADDRESS_WORDS, CAPSULE_ROOM, FEED_ROOM, KEPT_SIZE, RECEIVE_ROOM, SEND_ROOM};
 
@@ -21,32 +25,31 @@ use whapirohi_differential::subject::Library as Proved;
 #[cfg(not(feature = "library"))]
 use whapirohi_differential::subject::Model as Proved;
 
-/// Many short rounds, so that a round in which the machine did something else counts for little.
+/// Many short rounds, so that a round in which the machine did something else counts for little; fewer where a call takes long.
 const ROUNDS: usize = 101;
 const ROUND: Duration = Duration::from_micros(400);
-
-const SOURCE: u32 = 0xC000_0203;
-const DESTINATION: u32 = 0xC633_6402;
-const UDP: u8 = 17;
+const FEWEST_ROUNDS: usize = 11;
+const LONGEST: Duration = Duration::from_secs(3);
 
 fn main() {
     if cfg!(not(feature = "library")) {
         println!("without the library: the first column is the reference behind words\n");
     }
-    println!("Nanoseconds a call, median of {ROUNDS} rounds; outputs are not cleared between calls.\n");
+    println!("Nanoseconds a call, median of {ROUNDS} rounds, or of as many as fit in {LONGEST:?}; outputs are not cleared between calls.\n");
     println!("| call | packet | templates | lists | proved | Rust | ratio |");
     println!("|---|---:|---|---|---:|---:|---:|");
-    for (lists, grants) in [("1", grants(1, 1)), ("full", grants(MAX_ADDRESSES, MAX_RANGES))] {
+    let one = grants(1, 1);
+    let states = [("1", one), ("16/64", grants(16, 64)), ("full", grants(MAX_ADDRESSES, MAX_RANGES))];
+    for (lists, grants) in &states {
         for length in [64, 576, MAX_PACKET] {
             for templates in [0, 1, MAX_TEMPLATES] {
-                tunnel_rows(lists, &grants, length, &templates.to_string(), &plan(templates, Miss::EarlierPorts));
+                tunnel_rows(lists, grants, length, &templates.to_string(), &plan(templates, Miss::EarlierPorts));
             }
         }
     }
     println!("\nChoosing a template, by what it costs to send 576 bytes in full past 8 templates that do not fit.\n");
     println!("| call | packet | templates | lists | proved | Rust | ratio |");
     println!("|---|---:|---|---|---:|---:|---:|");
-    let one = grants(1, 1);
     for (name, miss) in [
         ("none", None),
         ("8, first byte differs", Some(Miss::FirstByte)),
@@ -59,98 +62,30 @@ fn main() {
     println!("\nReading a capsule, the state as in the column.\n");
     println!("| capsule | bytes | | lists | proved | Rust | ratio |");
     println!("|---|---:|---|---|---:|---:|---:|");
-    for (lists, grants) in [("1", grants(1, 1)), ("full", grants(MAX_ADDRESSES, MAX_RANGES))] {
-        capsule_rows(lists, &grants);
+    for (lists, grants) in &states {
+        capsule_rows(lists, grants);
     }
+    println!("\nReading more entries than a list holds, as an ADDRESS_REQUEST and as an ADDRESS_ASSIGN of the same bytes, microseconds; lists of 1.");
+    println!("Both are refused with 7, but a request in which IDs repeat with 6.\n");
+    println!(
+        "| entries | bytes | proved: request | assign | request / assign | Rust: request | assign | request / assign | request: proved / Rust |"
+    );
+    println!("|---|---:|---:|---:|---:|---:|---:|---:|---:|");
+    over_the_limit(&one);
     println!("\nA stream of {STREAM_CAPSULES} capsules in pieces, microseconds a stream; both test the whole state in every call.\n");
     println!("| capsules | bytes each | pieces of | lists | proved | Rust | ratio |");
     println!("|---|---:|---:|---|---:|---:|---:|");
-    for (lists, grants) in [("1", grants(1, 1)), ("full", grants(MAX_ADDRESSES, MAX_RANGES))] {
-        stream_rows(lists, &grants, "DATAGRAM", &datagram_capsule(1000));
-        stream_rows(lists, &grants, "ROUTE_ADVERTISEMENT", &routes_capsule(29));
+    for (lists, grants) in &states {
+        stream_rows(lists, grants, "DATAGRAM", &datagram_capsule(1000));
+        stream_rows(lists, grants, "ROUTE_ADVERTISEMENT", &routes_capsule(29));
     }
-    println!("\nOne DATAGRAM capsule in pieces of 1 byte, microseconds; what 4,000 bytes take is a multiple of what 1,000 take.\n");
+    println!("\nOne DATAGRAM capsule in pieces of 1 byte, microseconds; what 4 times the bytes take is a multiple of what the bytes take.\n");
     println!("| | 4,000 bytes | 1,000 bytes | quotient |");
     println!("|---|---:|---:|---:|");
-    growth_rows(&one);
-}
-
-/// Lists of which the last elements match the packet; the given lists are as long and match nothing.
-fn grants(addresses: usize, ranges: usize) -> Grants {
-    let entries = |last: u32| {
-        let mut list = AddressList { count: addresses, ..List::default() };
-        for (n, entry) in list.items[..addresses].iter_mut().rev().enumerate() {
-            let address = u128::from(last - n as u32);
-            *entry = AddressEntry { request_id: RequestId(n as u64 + 1), version: 4, prefix: 32, address };
-        }
-        list
-    };
-    let routes = |last: u32| {
-        let mut list = RouteList { count: ranges, ..List::default() };
-        for (n, range) in list.items[..ranges].iter_mut().rev().enumerate() {
-            let address = u128::from(last - 2 * n as u32);
-            *range = RouteRange { version: 4, protocol: UDP, start: address, end: address };
-        }
-        list
-    };
-    Grants {
-        received_addresses: entries(SOURCE),
-        received_routes: routes(DESTINATION),
-        given_addresses: entries(0x0A00_0100),
-        given_routes: routes(0x0A00_1000),
-    }
-}
-
-/// A UDP packet from port 1,000 to port 2,000 with a sound checksum.
-fn packet(length: usize) -> Vec<u8> {
-    let mut packet: Vec<u8> = (0..length).map(|n| (n * 7 + 3) as u8).collect();
-    packet[..20].fill(0);
-    packet[0] = 0x45;
-    put_word(&mut packet, 2, length as u16);
-    packet[8] = 64;
-    packet[9] = UDP;
-    packet[12..16].copy_from_slice(&SOURCE.to_be_bytes());
-    packet[16..20].copy_from_slice(&DESTINATION.to_be_bytes());
-    put_word(&mut packet, 20, 1000);
-    put_word(&mut packet, 22, 2000);
-    put_word(&mut packet, 24, (length - 20) as u16);
-    put_word(&mut packet, 26, 0);
-    let checksum = complete(sum(&packet[20..]) + u32::from(seed(&packet, length, 20)), true);
-    put_word(&mut packet, 26, checksum);
-    let checksum = !fold(sum(&packet[..20]));
-    put_word(&mut packet, 10, checksum);
-    packet
-}
-
-/// How the templates differ from the packet.
-#[derive(Clone, Copy)]
-enum Miss {
-    /// The last one fits, those before it have another port in the last byte of their segments.
-    EarlierPorts,
-    FirstByte,
-    LastByte,
-    /// All static bytes are equal, but there is no such checksum.
-    Checksum,
-}
-
-fn plan(count: usize, miss: Miss) -> Plan {
-    let mut plan = Plan::default();
-    plan.templates.count = count;
-    let front = packet(576);
-    for (n, template) in plan.templates.items[..count].iter_mut().enumerate() {
-        *template = Template { id: ContextId(n as u64 + 2), ..Template::default() };
-        template.segments.count = 1;
-        template.segments.items[0] = Segment { offset: 12, length: 12 };
-        template.bytes[12..24].copy_from_slice(&front[12..24]);
-        template.checksum = Some(Checksum { field: 26, start: 20 });
-        match miss {
-            Miss::EarlierPorts => template.bytes[23] ^= u8::from(n + 1 < count),
-            Miss::FirstByte => template.bytes[12] ^= 1,
-            Miss::LastByte => template.bytes[23] ^= 1,
-            Miss::Checksum => template.checksum = Some(Checksum { field: 28, start: 20 }),
-        }
-    }
-    plan
+    growth_rows(&one, 4000, 1000);
+    println!("\n| | 16,000 bytes | 4,000 bytes | quotient |");
+    println!("|---|---:|---:|---:|");
+    growth_rows(&one, 16000, 4000);
 }
 
 fn tunnel_rows(lists: &str, grants: &Grants, length: usize, templates: &str, plan: &Plan) {
@@ -191,12 +126,19 @@ fn capsule_rows(lists: &str, held: &Grants) {
     let full = ipv6_lists();
     let mut out = vec![0; CAPSULE_ROOM];
     let mut capsules = Vec::new();
-    let length = write_assign(&full.received_addresses, &mut out).unwrap();
-    capsules.push(("assign of 16 IPv6 addresses", out[..length].to_vec()));
-    let length = write_routes(&full.received_routes, &mut out).unwrap();
-    capsules.push(("advertisement of 64 IPv6 ranges", out[..length].to_vec()));
+    for count in [16, MAX_ADDRESSES] {
+        let length = write_assign(&AddressList { count, ..full.received_addresses }, &mut out).unwrap();
+        capsules.push((format!("assign of {count} IPv6 addresses"), out[..length].to_vec()));
+    }
+    for count in [1, 16, MAX_ADDRESSES] {
+        let length = write_request(&AddressList { count, ..full.received_addresses }, &mut out).unwrap();
+        capsules.push((format!("request, IPv6 entries: {count}"), out[..length].to_vec()));
+    }
+    for count in [64, MAX_RANGES] {
+        capsules.push((format!("advertisement of {count} IPv6 ranges"), routes_capsule(count)));
+    }
     let length = write_datagram(&packet(MAX_PACKET), &mut out).unwrap();
-    capsules.push(("datagram of 1,500 bytes", out[..length].to_vec()));
+    capsules.push(("datagram of 1,500 bytes".into(), out[..length].to_vec()));
     for (name, bytes) in capsules {
         // Each reading starts from the lists that the one before left: the first replaces them, then they are as long as the capsule's.
         let mut state: State = state_of(held, &Plan::default());
@@ -211,28 +153,46 @@ fn capsule_rows(lists: &str, held: &Grants) {
             || black_box(&mut grants).read_capsule(black_box(&plan), black_box(&bytes), 0).map_or(0, |(_, next)| next),
         );
         assert_eq!(state, state_of(&grants, &Plan::default()));
-        row(name, bytes.len(), "", lists, times);
+        row(&name, bytes.len(), "", lists, times);
     }
 }
 
+fn over_the_limit(held: &Grants) {
+    let in_order: Vec<u64> = (1..=MOST_DIFFERENT as u64).collect();
+    let of_four: Vec<u64> = shuffled_ids(MOST_OF_FOUR).iter().map(|id| id << 14).collect();
+    let repeated: Vec<u64> = (0..MOST_ENTRIES as u64).map(|n| 1 + n % SHORT_IDS as u64).collect();
+    over_the_limit_row(held, "IDs differ, in order", &in_order, 7);
+    over_the_limit_row(held, "IDs differ, in any order", &shuffled_ids(MOST_DIFFERENT), 7);
+    over_the_limit_row(held, "IDs of 4 bytes, in any order", &of_four, 7);
+    over_the_limit_row(held, "IDs of 1 byte repeat", &repeated, 6);
+}
+
+fn over_the_limit_row(held: &Grants, name: &str, ids: &[u64], refusal: u64) {
+    let (request, assign) = (numbered_entries(2, ids), numbered_entries(1, ids));
+    let mut state = state_of(held, &Plan::default());
+    let mut requested = [0; ADDRESS_WORDS];
+    let mut proved = |bytes: &[u8]| Proved.read_capsule(&mut state, bytes, 0, &mut requested).number as usize;
+    let (mut grants, plan) = (*held, Plan::default());
+    let mut rust =
+        |bytes: &[u8]| grants.read_capsule(&plan, bytes, 0).map_or_else(|refusal| refusal.number().into(), |_| 0);
+    assert_eq!((proved(&request), proved(&assign)), (refusal as usize, 7));
+    assert_eq!((rust(&request), rust(&assign)), (refusal as usize, 7));
+    let first = take_turns_of(&mut proved, &request, &assign);
+    let second = take_turns_of(&mut rust, &request, &assign);
+    let shown = |(request, assign, quotient): (f64, f64, f64)| {
+        format!("{:.1} | {:.1} | {quotient:.2}", request / 1e3, assign / 1e3)
+    };
+    let (_, _, ratio) = take_turns(|| proved(black_box(&request)), || rust(black_box(&request)));
+    println!("| {}, {name} | {} | {} | {} | {ratio:.2} |", ids.len(), request.len(), shown(first), shown(second));
+}
+
+/// One call on two inputs.
+fn take_turns_of(call: &mut impl FnMut(&[u8]) -> usize, first: &[u8], second: &[u8]) -> (f64, f64, f64) {
+    let call = RefCell::new(call);
+    take_turns(|| call.borrow_mut()(black_box(first)), || call.borrow_mut()(black_box(second)))
+}
+
 const STREAM_CAPSULES: usize = 64;
-
-/// A DATAGRAM capsule of so many bytes in all; its length takes 2.
-fn datagram_capsule(size: usize) -> Vec<u8> {
-    let mut out = vec![0; CAPSULE_ROOM];
-    let value: Vec<u8> = (0..size - 3).map(|n| (n * 7 + 3) as u8).collect();
-    let length = write_datagram(&value, &mut out).unwrap();
-    assert_eq!(length, size);
-    out[..length].to_vec()
-}
-
-/// A ROUTE_ADVERTISEMENT of so many IPv6 ranges, 34 bytes each.
-fn routes_capsule(count: usize) -> Vec<u8> {
-    let mut out = vec![0; CAPSULE_ROOM];
-    let list = RouteList { count, ..ipv6_lists().received_routes };
-    let length = write_routes(&list, &mut out).unwrap();
-    out[..length].to_vec()
-}
 
 /// A host that hands in pieces of one size, and again what a call leaves; how many capsules came to their end.
 struct Host {
@@ -306,8 +266,8 @@ fn stream_rows(lists: &str, held: &Grants, name: &str, capsule: &[u8]) {
     }
 }
 
-fn growth_rows(held: &Grants) {
-    let (long, short) = (datagram_capsule(4000), datagram_capsule(1000));
+fn growth_rows(held: &Grants, long: usize, short: usize) {
+    let (long, short) = (datagram_capsule(long), datagram_capsule(short));
     let (mut first, mut second) = (Host::new(held), Host::new(held));
     growth_row("proved", take_turns(|| first.feed(&long, 1), || second.feed(&short, 1)));
     let (mut first, mut second) = (RustHost::new(held), RustHost::new(held));
@@ -318,27 +278,12 @@ fn growth_row(name: &str, (long, short, quotient): (f64, f64, f64)) {
     println!("| {name} | {:.1} | {:.1} | {quotient:.2} |", long / 1e3, short / 1e3);
 }
 
-fn ipv6_lists() -> Grants {
-    let mut lists = Grants::default();
-    let network = 0x2001_0db8_u128 << 96;
-    lists.received_addresses.count = MAX_ADDRESSES;
-    for (n, entry) in lists.received_addresses.items.iter_mut().enumerate() {
-        let address = network + ((n as u128) << 64);
-        *entry = AddressEntry { request_id: RequestId(n as u64 + 1), version: 6, prefix: 64, address };
-    }
-    lists.received_routes.count = MAX_RANGES;
-    for (n, range) in lists.received_routes.items.iter_mut().enumerate() {
-        let start = network + ((n as u128) << 64);
-        *range = RouteRange { version: 6, protocol: UDP, start, end: start + 0xffff };
-    }
-    lists
-}
-
 /// The medians of both, in nanoseconds a call, and of their ratio turn by turn.
 fn take_turns(mut first: impl FnMut() -> usize, mut second: impl FnMut() -> usize) -> (f64, f64, f64) {
     let (first_count, second_count) = (calls(&mut first), calls(&mut second));
     let (mut firsts, mut seconds) = (Vec::new(), Vec::new());
-    for _ in 0..ROUNDS {
+    let begun = Instant::now();
+    while firsts.len() < ROUNDS && (firsts.len() < FEWEST_ROUNDS || begun.elapsed() < LONGEST) {
         firsts.push(timed(&mut first, first_count));
         seconds.push(timed(&mut second, second_count));
     }

@@ -1,11 +1,14 @@
 //! One call made of the subject and of the model, and all that either may alter compared; and how often each answer occurred.
 
+use crate::capsules::Measure;
 use crate::subject::{Lent, Model, Subject};
 use crate::words::empty_state;
 use std::collections::BTreeMap;
 use std::fmt::Write;
+use whapirohi_reference::capsule::MAX_VALUE;
+use whapirohi_reference::list::{MAX_ADDRESSES, MAX_RANGES};
 use whapirohi_reference::number;
-use whapirohi_tunnel::{AddressWords, Answer, Capsule, Number, Piece, RouteWords, State};
+use whapirohi_tunnel::{AddressWords, Answer, Capsule, Number, Piece, RouteWords, State, CAPSULE_ROOM, FEED_ROOM};
 
 /// Every answer that an entry point can give; each must occur in a run.
 pub const ANSWERS: &[(&str, &[&str])] = &[
@@ -72,17 +75,83 @@ pub struct Run<'a> {
     pub told: Vec<String>,
     pub answers: BTreeMap<(&'static str, &'static str), u64>,
     pub occasions: BTreeMap<&'static str, u64>,
+    /// Sizes one below their limits, at them and one above.
+    pub limits: BTreeMap<(&'static str, u64), u64>,
 }
+
+/// What the sizes of a capsule that is read are counted as.
+struct Sizes {
+    datagram: &'static str,
+    list: &'static str,
+    assign: &'static str,
+    request: &'static str,
+    routes: &'static str,
+    ipv6_routes: &'static str,
+}
+
+const READ: Sizes = Sizes {
+    datagram: "datagram read",
+    list: "value of a list, read",
+    assign: "assign read",
+    request: "request read",
+    routes: "routes read",
+    ipv6_routes: "IPv6 routes read",
+};
+
+const IN_PIECES: Sizes = Sizes {
+    datagram: "datagram in pieces",
+    list: "value of a list, in pieces",
+    assign: "assign in pieces",
+    request: "request in pieces",
+    routes: "routes in pieces",
+    ipv6_routes: "IPv6 routes in pieces",
+};
 
 const TOLD: usize = 5;
 
 impl<'a> Run<'a> {
     pub fn new(subject: &'a dyn Subject) -> Run<'a> {
-        Run { subject, cases: 0, faults: 0, told: Vec::new(), answers: BTreeMap::new(), occasions: BTreeMap::new() }
+        Run {
+            subject,
+            cases: 0,
+            faults: 0,
+            told: Vec::new(),
+            answers: BTreeMap::new(),
+            occasions: BTreeMap::new(),
+            limits: BTreeMap::new(),
+        }
     }
 
     pub fn occasion(&mut self, name: &'static str) {
         *self.occasions.entry(name).or_default() += 1;
+    }
+
+    /// Counts a size that is one below its limit, at it or one above.
+    pub fn limit(&mut self, name: &'static str, size: u64, limit: usize) {
+        let place = size.wrapping_add(1).wrapping_sub(limit as u64);
+        if place < 3 {
+            *self.limits.entry((name, place)).or_default() += 1;
+        }
+    }
+
+    /// Counts the sizes of a capsule that was answered with a number.
+    fn sizes(&mut self, sizes: &Sizes, number: u64, capsule: &[u8]) {
+        let Some(Measure { kind, length, elements, ipv6 }) = Measure::of(capsule) else { return };
+        let (name, limit) = match kind {
+            0 => return self.limit(sizes.datagram, length, MAX_VALUE),
+            1 => (sizes.assign, MAX_ADDRESSES),
+            2 => (sizes.request, MAX_ADDRESSES),
+            3 => (sizes.routes, MAX_RANGES),
+            _ => return,
+        };
+        self.limit(sizes.list, length, MAX_VALUE);
+        // With another number it has some other fault.
+        if matches!(number, 0 | 7) {
+            self.limit(name, elements as u64, limit);
+            if kind == 3 && ipv6 {
+                self.limit(sizes.ipv6_routes, elements as u64, limit);
+            }
+        }
     }
 
     /// Something that must hold and is not a comparison of one call.
@@ -126,22 +195,39 @@ impl<'a> Run<'a> {
 
     pub fn write_datagram(&mut self, value: &[u8], out: &[u8]) -> Written {
         let inputs = || format!("value {}", hex(value));
-        self.writing("write_datagram", &empty_state(), out, label_of, inputs, |s, _, out| s.write_datagram(value, out))
+        let written = self
+            .writing("write_datagram", &empty_state(), out, label_of, inputs, |s, _, out| s.write_datagram(value, out));
+        self.wrote("datagram written", written, &[0, 2], value.len() as u64, MAX_VALUE)
     }
 
     pub fn write_request(&mut self, list: &AddressWords, out: &[u8]) -> Written {
         let inputs = || format!("list {}", shown(list));
-        self.writing("write_request", &empty_state(), out, label_of, inputs, |s, _, out| s.write_request(list, out))
+        let written = self
+            .writing("write_request", &empty_state(), out, label_of, inputs, |s, _, out| s.write_request(list, out));
+        self.wrote("request written", written, &[0, 7], list[0], MAX_ADDRESSES)
     }
 
     pub fn write_assign(&mut self, state: &State, list: &AddressWords, out: &[u8]) -> Written {
         let inputs = || format!("list {}", shown(list));
-        self.writing("write_assign", state, out, label_of, inputs, |s, state, out| s.write_assign(state, list, out))
+        let written = self
+            .writing("write_assign", state, out, label_of, inputs, |s, state, out| s.write_assign(state, list, out));
+        self.wrote("assign written", written, &[0, 7], list[0], MAX_ADDRESSES)
     }
 
     pub fn write_routes(&mut self, state: &State, list: &RouteWords, out: &[u8]) -> Written {
         let inputs = || format!("list {}", shown(list));
-        self.writing("write_routes", state, out, label_of, inputs, |s, state, out| s.write_routes(state, list, out))
+        let written = self
+            .writing("write_routes", state, out, label_of, inputs, |s, state, out| s.write_routes(state, list, out));
+        self.wrote("routes written", written, &[0, 7], list[0], MAX_RANGES)
+    }
+
+    /// Counts the size of what was written, and of the output, where the answer is about that size.
+    fn wrote(&mut self, name: &'static str, written: Written, numbers: &[u64], size: u64, limit: usize) -> Written {
+        self.limit("output for a capsule", written.out.len() as u64, CAPSULE_ROOM);
+        if numbers.contains(&written.answer.number) {
+            self.limit(name, size, limit);
+        }
+        written
     }
 
     pub fn write_plan(&mut self, state: &State, out: &[u8]) -> Written {
@@ -233,6 +319,9 @@ impl<'a> Run<'a> {
         let (mut got_state, mut got_requested) = (state.clone(), *requested);
         let got = self.subject.read_capsule(&mut got_state, bytes, at, &mut got_requested);
         self.count("read_capsule", capsule_label(wanted.number, wanted.kind));
+        if matches!(wanted.number, 0 | 2..=7) {
+            self.sizes(&READ, wanted.number, &bytes[at..]);
+        }
         let untouched = wanted.number == 0 || wanted_state == *state && wanted_requested == *requested;
         if got != wanted || got_state != wanted_state || got_requested != wanted_requested || !untouched {
             self.fault(format!(
@@ -253,6 +342,11 @@ impl<'a> Run<'a> {
         let got = self.subject.feed(&mut got_lent, bytes);
         let clean = wanted.number == 0 && wanted.handed == 0;
         self.count("feed", if clean { "0 clean" } else { capsule_label(wanted.number, wanted.kind) });
+        self.limit("output for a piece", lent.out.len() as u64, FEED_ROOM);
+        if lent.state.to_skip == 0 && lent.state.remembered == 0 && matches!(wanted.number, 0 | 2..=7) {
+            let kept = &lent.kept[..lent.state.kept_count as usize];
+            self.sizes(&IN_PIECES, wanted.number, &[kept, bytes].concat());
+        }
         let lawful = match wanted.number {
             0 if clean => bytes.is_empty() && wanted_lent == *lent,
             0 => wanted.taken <= bytes.len() as u64,
@@ -331,7 +425,7 @@ fn label(number: u64) -> &'static str {
 
 pub fn hex(bytes: &[u8]) -> String {
     let mut text = format!("({} bytes) ", bytes.len());
-    for byte in bytes.iter().take(4200) {
+    for byte in bytes.iter().take(MAX_VALUE + 100) {
         write!(text, "{byte:02x}").unwrap();
     }
     text

@@ -1,6 +1,6 @@
 //! The families of cases.
 
-use crate::capsules::{capsule, number_form};
+use crate::capsules::{about_limit, capsule, number_form};
 use crate::compare::{Run, Written};
 use crate::lists::{
     count, damage_addresses, damage_lists, damage_routes, litter_addresses, litter_lists, litter_routes,
@@ -10,6 +10,7 @@ use crate::packets::{datagram, scene, variation, Scene};
 use crate::pieces::{capsules_in_pieces, litter_store};
 use crate::plans::{damage_plan, damaged_file, litter_plan, litter_static_bytes, plan_file, sound_plan};
 use crate::random::Random;
+use crate::requests::requests;
 use crate::words::{
     address_list, address_words, empty_state, mirrored, plan_of, plan_words, route_list, route_words, state_of,
 };
@@ -29,7 +30,31 @@ pub const FAMILIES: &[(&str, Family, u64)] = &[
     ("capsules_written", capsules_written, 10),
     ("plans", plans, 12),
     ("packets", packets, 35),
-    ("capsules_in_pieces", capsules_in_pieces, 20),
+    ("capsules_in_pieces", capsules_in_pieces, 19),
+    ("requests", requests, 1),
+];
+
+/// Sizes that a run must have come by one below their limits, at them and one above.
+pub const LIMITS: &[&str] = &[
+    "datagram read",
+    "datagram in pieces",
+    "datagram written",
+    "value of a list, read",
+    "value of a list, in pieces",
+    "assign read",
+    "assign in pieces",
+    "assign written",
+    "request read",
+    "request in pieces",
+    "request written",
+    "routes read",
+    "routes in pieces",
+    "routes written",
+    "IPv6 routes read",
+    "IPv6 routes in pieces",
+    "output for a capsule",
+    "output for a piece",
+    "bytes kept",
 ];
 
 /// What a run must have come by, beside every answer.
@@ -61,7 +86,6 @@ pub const OCCASIONS: &[&str] = &[
     "cut in a skipped value of 2^61 bytes or more",
     "empty piece while a capsule is open",
     "one byte at a time",
-    "4,111 bytes kept",
     "list that ends in a later piece",
     "datagram that ends in a later piece",
     "refusal repeated",
@@ -78,6 +102,21 @@ pub const OCCASIONS: &[&str] = &[
     "store: keeps a type that is skipped",
     "store: keeps a length that is refused",
     "store: sound",
+    "request: all IDs differ",
+    "request: all IDs differ, as many as a value can hold",
+    "request: as many entries as a value can hold",
+    "request: an ID repeated at every distance",
+    "request: the first ID and the last are equal",
+    "request: neighbours are equal",
+    "request: IDs past the limit of a list are equal",
+    "request: equal IDs in two forms",
+    "request: the last ID is 0",
+    "request: a bad entry",
+    "request: a bad entry behind a repeated ID",
+    "request: a bad entry before a repeated ID, or with it",
+    "request: a value about its limit",
+    "request: the last entry is cut",
+    "request: the last entry is cut, behind a repeated ID",
 ];
 
 fn numbers(run: &mut Run, random: &mut Random, cases: u64) {
@@ -155,8 +194,9 @@ fn capsules_read(run: &mut Run, random: &mut Random, cases: u64) {
             }
             continue;
         }
-        let mut bytes = match random.below(12) {
-            0 => {
+        let mut bytes = match random.below(36) {
+            0 => about_limit(random),
+            1..=3 => {
                 let length = random.below(40);
                 let mut bytes = random.bytes(length);
                 if let Some(first) = bytes.first_mut() {
@@ -203,8 +243,8 @@ fn capsules_written(run: &mut Run, random: &mut Random, cases: u64) {
         match random.below(10) {
             0 | 1 => {
                 let length = match random.below(4) {
-                    0 => random.pick(&[0, 63, 64, MAX_VALUE - 1, MAX_VALUE, MAX_VALUE + 1, 5000, 65535]),
-                    1 => random.below(4200),
+                    0 => random.pick(&[0, 63, 64, 5000, MAX_VALUE - 1, MAX_VALUE, MAX_VALUE + 1, 65535]),
+                    1 => random.below(MAX_VALUE + 100),
                     _ => random.below(70),
                 };
                 let value = random.bytes(length);
@@ -230,7 +270,7 @@ fn capsules_written(run: &mut Run, random: &mut Random, cases: u64) {
                 }
                 match random.below(8) {
                     0 | 1 => damage_addresses(random, &mut words),
-                    2 => words[0] = 17,
+                    2 => words[0] = MAX_ADDRESSES as u64 + 1,
                     3 if entries > 1 && request => {
                         let (a, b) = (random.below(entries), random.below(entries));
                         words[1 + 4 * a] = random.pick(&[words[1 + 4 * b], 0]);
@@ -255,7 +295,7 @@ fn capsules_written(run: &mut Run, random: &mut Random, cases: u64) {
                 }
                 match random.below(6) {
                     0 | 1 => damage_routes(random, &mut words),
-                    2 if ranges == MAX_RANGES => words[0] = 65,
+                    2 if ranges == MAX_RANGES => words[0] = MAX_RANGES as u64 + 1,
                     _ => {}
                 }
                 let written = run.write_routes(&state, &words, &out);

@@ -11,5 +11,6 @@ pub mod packets;
 pub mod pieces;
 pub mod plans;
 pub mod random;
+pub mod requests;
 pub mod subject;
 pub mod words;

@@ -180,7 +180,8 @@ pub fn litter_lists(random: &mut Random, state: &mut State) {
 pub fn damage_addresses(random: &mut Random, words: &mut AddressWords) {
     let stored = (words[0] as usize).min(MAX_ADDRESSES);
     if stored == 0 || random.once_in(8) {
-        words[0] = random.pick(&[17, 18, 1 << 32, 1 << 63, u64::MAX, (1 << 32) + 1]);
+        const LIMIT: u64 = MAX_ADDRESSES as u64;
+        words[0] = random.pick(&[LIMIT + 1, LIMIT + 2, 1 << 32, 1 << 63, u64::MAX, (1 << 32) + 1]);
         return;
     }
     let entry = &mut words[1 + ENTRY_WORDS * random.below(stored)..][..ENTRY_WORDS];
@@ -199,7 +200,8 @@ pub fn damage_addresses(random: &mut Random, words: &mut AddressWords) {
 pub fn damage_routes(random: &mut Random, words: &mut RouteWords) {
     let stored = (words[0] as usize).min(MAX_RANGES);
     if stored == 0 || random.once_in(8) {
-        words[0] = random.pick(&[65, 66, 1 << 32, 1 << 63, u64::MAX, (1 << 32) + 1]);
+        const LIMIT: u64 = MAX_RANGES as u64;
+        words[0] = random.pick(&[LIMIT + 1, LIMIT + 2, 1 << 32, 1 << 63, u64::MAX, (1 << 32) + 1]);
         return;
     }
     let at = random.below(stored);

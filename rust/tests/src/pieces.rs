@@ -1,6 +1,6 @@
 //! Streams of capsules cut into pieces, and stores: sound, or breaking one of their rules.
 
-use crate::capsules::{capsule, head, number_form, sound_capsule, sound_value};
+use crate::capsules::{about_limit, capsule, head, number_form, sound_capsule, sound_value};
 use crate::compare::Run;
 use crate::families::{lists_state, requested};
 use crate::random::Random;
@@ -49,7 +49,7 @@ fn lent(random: &mut Random) -> Lent {
 fn stream(random: &mut Random) -> Vec<u8> {
     let faults = random.pick(&[1, 3, 20]);
     let count = random.between(1, 6);
-    let mut bytes = Vec::new();
+    let mut bytes = if random.once_in(12) { about_limit(random) } else { Vec::new() };
     for _ in 0..count {
         bytes.extend(if random.once_in(faults) { capsule(random) } else { sound_capsule(random) });
     }
@@ -228,9 +228,7 @@ fn one_call_from_a_store(run: &mut Run, random: &mut Random, lent: &Lent) {
     let mut lent = lent.clone();
     let (name, missing) = store(random, &mut lent);
     run.occasion(name);
-    if lent.state.kept_count == KEPT_SIZE as u64 - 1 {
-        run.occasion("4,111 bytes kept");
-    }
+    run.limit("bytes kept", lent.state.kept_count, KEPT_SIZE);
     let length = match random.below(6) {
         0 => 0,
         1 => 1,
@@ -275,7 +273,8 @@ fn store(random: &mut Random, lent: &mut Lent) -> (&'static str, Vec<u8>) {
     }
     let name = match random.below(11) {
         0 => {
-            state.kept_count = random.pick(&[4113, 4114, 1 << 32, (1 << 32) + 5, 1 << 63, u64::MAX]);
+            const SIZE: u64 = KEPT_SIZE as u64;
+            state.kept_count = random.pick(&[SIZE + 1, SIZE + 2, 1 << 32, (1 << 32) + 5, 1 << 63, u64::MAX]);
             "store: more kept than there is room for"
         }
         1 => {

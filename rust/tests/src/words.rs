@@ -8,7 +8,8 @@ use whapirohi_reference::{
     Segment, Stream, Template,
 };
 use whapirohi_tunnel::{AddressWords, KeptBytes, PlanWords, RouteWords, State};
-use whapirohi_tunnel::{ADDRESS_WORDS, KEPT_SIZE, MAX_SEGMENTS, PLAN_WORDS, ROUTE_WORDS, TEMPLATE_WORDS};
+use whapirohi_tunnel::{ADDRESS_WORDS, KEPT_SIZE, PLAN_WORDS, ROUTE_WORDS, TEMPLATE_WORDS};
+use whapirohi_tunnel::{MAX_ADDRESSES, MAX_RANGES, MAX_SEGMENTS, MAX_TEMPLATES};
 
 pub const ENTRY_WORDS: usize = 4;
 pub const RANGE_WORDS: usize = 5;
@@ -57,12 +58,12 @@ pub fn mirrored(state: &State) -> State {
 }
 
 pub fn grants_of(state: &State) -> Grants {
-    Grants {
-        received_addresses: address_list(&state.received_addresses),
-        received_routes: route_list(&state.received_routes),
-        given_addresses: address_list(&state.given_addresses),
-        given_routes: route_list(&state.given_routes),
-    }
+    let mut grants = Grants::default();
+    put_addresses(&state.received_addresses, &mut grants.received_addresses);
+    put_routes(&state.received_routes, &mut grants.received_routes);
+    put_addresses(&state.given_addresses, &mut grants.given_addresses);
+    put_routes(&state.given_routes, &mut grants.given_routes);
+    grants
 }
 
 /// The refusals that a store may remember.
@@ -88,12 +89,18 @@ pub fn stream_of(state: &State, kept: &KeptBytes) -> Stream {
 }
 
 pub fn address_list(words: &AddressWords) -> AddressList {
-    let mut list = AddressList { count: words[0] as usize, ..List::default() };
-    for (entry, w) in list.items.iter_mut().zip(words[1..].chunks_exact(ENTRY_WORDS)) {
+    let mut list = AddressList::default();
+    put_addresses(words, &mut list);
+    list
+}
+
+fn put_addresses(words: &AddressWords, list: &mut AddressList) {
+    list.count = words[0] as usize;
+    let stored = list.count.min(MAX_ADDRESSES);
+    for (entry, w) in list.items[..stored].iter_mut().zip(words[1..].chunks_exact(ENTRY_WORDS)) {
         let [version, prefix, ..] = w[1].to_le_bytes();
         *entry = AddressEntry { request_id: RequestId(w[0]), version, prefix, address: wide(w[2], w[3]) };
     }
-    list
 }
 
 pub fn address_words(list: &AddressList) -> AddressWords {
@@ -107,12 +114,18 @@ pub fn address_words(list: &AddressList) -> AddressWords {
 }
 
 pub fn route_list(words: &RouteWords) -> RouteList {
-    let mut list = RouteList { count: words[0] as usize, ..List::default() };
-    for (range, w) in list.items.iter_mut().zip(words[1..].chunks_exact(RANGE_WORDS)) {
+    let mut list = RouteList::default();
+    put_routes(words, &mut list);
+    list
+}
+
+fn put_routes(words: &RouteWords, list: &mut RouteList) {
+    list.count = words[0] as usize;
+    let stored = list.count.min(MAX_RANGES);
+    for (range, w) in list.items[..stored].iter_mut().zip(words[1..].chunks_exact(RANGE_WORDS)) {
         let [version, protocol, ..] = w[0].to_le_bytes();
         *range = RouteRange { version, protocol, start: wide(w[1], w[2]), end: wide(w[3], w[4]) };
     }
-    list
 }
 
 pub fn route_words(list: &RouteList) -> RouteWords {
@@ -129,7 +142,8 @@ pub fn route_words(list: &RouteList) -> RouteWords {
 
 pub fn plan_of(words: &PlanWords) -> Plan {
     let mut plan = Plan { templates: List { count: words[0] as usize, ..List::default() } };
-    for (template, w) in plan.templates.items.iter_mut().zip(words[1..].chunks_exact(TEMPLATE_WORDS)) {
+    let stored = plan.templates.count.min(MAX_TEMPLATES);
+    for (template, w) in plan.templates.items[..stored].iter_mut().zip(words[1..].chunks_exact(TEMPLATE_WORDS)) {
         *template = template_of(w);
     }
     plan

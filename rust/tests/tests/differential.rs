@@ -5,7 +5,7 @@ use std::collections::BTreeMap;
 use std::process::ExitCode;
 use std::time::Instant;
 use whapirohi_differential::compare::Run;
-use whapirohi_differential::families::{FAMILIES, OCCASIONS};
+use whapirohi_differential::families::{FAMILIES, LIMITS, OCCASIONS};
 use whapirohi_differential::random::Random;
 #[cfg(feature = "library")]
 use whapirohi_differential::subject::Library as Tested;
@@ -56,6 +56,7 @@ fn main() -> ExitCode {
         all.cases += run.cases;
         add(&mut all.answers, run.answers);
         add(&mut all.occasions, run.occasions);
+        add(&mut all.limits, run.limits);
     }
 
     let (table, mut missing) = all.table();
@@ -66,6 +67,14 @@ fn main() -> ExitCode {
         println!("  {name}: {count}");
         if count == 0 {
             missing.push(format!("never: {name}"));
+        }
+    }
+    println!("and how often a size was one below its limit, at it and one above:");
+    for name in LIMITS {
+        let counts = [0, 1, 2].map(|place| all.limits.get(&(*name, place)).copied().unwrap_or(0));
+        println!("  {name}: {}, {}, {}", counts[0], counts[1], counts[2]);
+        if counts.contains(&0) {
+            missing.push(format!("not about its limit: {name}"));
         }
     }
     println!();

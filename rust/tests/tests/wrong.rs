@@ -1,13 +1,16 @@
 //! The tests themselves: subjects that are wrong in one thing each are found out.
 
+use whapirohi_differential::capsules::{first_elements, Measure};
 use whapirohi_differential::compare::Run;
-use whapirohi_differential::families::FAMILIES;
+use whapirohi_differential::families::{Family, FAMILIES};
 use whapirohi_differential::random::Random;
 use whapirohi_differential::subject::{Lent, Model, Subject};
 use whapirohi_differential::words::{address_list, address_words};
+use whapirohi_reference::capsule::MAX_VALUE;
+use whapirohi_reference::list::{MAX_ADDRESSES, MAX_RANGES};
 use whapirohi_reference::number;
 use whapirohi_reference::packet::{complete, put_word, seed, sum};
-use whapirohi_tunnel::{AddressWords, Answer, Capsule, Number, Piece, RouteWords, State};
+use whapirohi_tunnel::{AddressWords, Answer, Capsule, Number, Piece, RouteWords, State, ADDRESS_WORDS, KEPT_SIZE};
 
 #[derive(Clone, Copy, Debug, PartialEq)]
 enum Slip {
@@ -40,6 +43,10 @@ enum Slip {
     TooLongOnlyWhenAllIsThere,
     StoreNotJudged,
     KeptBytesOfAListLost,
+    IdsComparedUpToTheLimit,
+    RangePastTheLimitTaken,
+    LongestValueRefused,
+    LongestStoreRefused,
 }
 
 struct Wrong(Slip);
@@ -105,9 +112,26 @@ impl Subject for Wrong {
                 state.received_addresses = address_words(&list);
             }
             Slip::MadeUpCount if capsule.kind == 4 => capsule.next += 1,
-            Slip::UnusedWordsLeft if capsule.number == 0 && capsule.kind == 2 => requested[64] |= 1,
+            Slip::UnusedWordsLeft if capsule.number == 0 && capsule.kind == 2 => requested[ADDRESS_WORDS - 1] |= 1,
             Slip::PlaceMovedOnRefusal if capsule.number == 1 => capsule.next = bytes.len() as u64,
             Slip::StateTouchedOnRefusal if capsule.number == 3 => state.received_addresses[0] = 0,
+            Slip::IdsComparedUpToTheLimit if capsule.number == 6 => {
+                let front = first_elements(&bytes[at..], MAX_ADDRESSES).unwrap();
+                if Model.read_capsule(&mut before.clone(), &front, 0, &mut requested.clone()).number == 0 {
+                    capsule.number = 7;
+                }
+            }
+            Slip::RangePastTheLimitTaken if capsule.number == 7 => {
+                let measure = Measure::of(&bytes[at..]).unwrap();
+                if measure.kind == 3 && measure.elements == MAX_RANGES + 1 {
+                    let front = first_elements(&bytes[at..], MAX_RANGES).unwrap();
+                    let next = capsule.next;
+                    capsule = Capsule { next, ..Model.read_capsule(state, &front, 0, requested) };
+                }
+            }
+            Slip::LongestValueRefused if capsule.number == 0 && capsule.length == MAX_VALUE as u64 => {
+                capsule = Capsule { number: 2, kind: 0, start: 0, length: 0, next: at as u64 };
+            }
             _ => {}
         }
         capsule
@@ -129,6 +153,10 @@ impl Subject for Wrong {
             Slip::FirstPieceDropped if piece.number == 1 && kept_count == 0 => lent.state.kept_count = 0,
             Slip::TooLongOnlyWhenAllIsThere if piece.number == 2 && bytes.len() < 10 => {
                 piece = Piece { number: 1, taken: bytes.len() as u64, ..piece };
+            }
+            Slip::LongestStoreRefused if kept_count + 1 == KEPT_SIZE as u64 => {
+                *lent = before;
+                piece = Piece { number: 9, handed: 0, kind: 0, length: 0, taken: 0 };
             }
             Slip::KeptBytesOfAListLost if piece.number == 0 && kept_count > 0 && piece.kind == 3 => {
                 lent.state.received_routes = before.state.received_routes;
@@ -203,15 +231,17 @@ impl Subject for Wrong {
     }
 }
 
+const CASES: u64 = 24_000;
+
+/// How often the first family that notices anything differs.
 fn faults(slip: Slip) -> u64 {
     let subject = Wrong(slip);
-    let mut faults = 0;
-    for (_, family, _) in FAMILIES {
+    let family_faults = |(_, family, share): &(&str, Family, u64)| {
         let mut run = Run::new(&subject);
-        family(&mut run, &mut Random::new(1), 4_000);
-        faults += run.faults;
-    }
-    faults
+        family(&mut run, &mut Random::new(1), CASES * share / 100);
+        run.faults
+    };
+    FAMILIES.iter().map(family_faults).find(|faults| *faults > 0).unwrap_or(0)
 }
 
 #[test]
@@ -245,6 +275,10 @@ fn wrong_subjects_are_found_out() {
         Slip::TooLongOnlyWhenAllIsThere,
         Slip::StoreNotJudged,
         Slip::KeptBytesOfAListLost,
+        Slip::IdsComparedUpToTheLimit,
+        Slip::RangePastTheLimitTaken,
+        Slip::LongestValueRefused,
+        Slip::LongestStoreRefused,
     ] {
         assert!(faults(slip) > 0, "{slip:?} is not noticed");
     }
