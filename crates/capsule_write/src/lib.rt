@@ -42,7 +42,7 @@ pub fn write_datagram(value: &[u8], out: &mut [u8]) -> Answer
         return Answer::Refused(Refusal::TooLong);
     }
     let start = put_header(out, 0, value.len());
-    let end = output::put_bytes(out, start, value);
+    let end = output::put_many(out, start, value);
     Answer::Done(end)
 }
 

@@ -1,13 +1,14 @@
 // Numbers as bytes and as words: the big-endian value of up to 8 bytes, the bytes of a number, numbers of 128 bits in two words of 64,
-// and words copied.
+// and bytes and words copied.
 // The inner functions of the codecs above; each says what it requires, and no entry point of the box is here.
 ghost use mathlib.Core.Path.{_≡_};
 ghost use mathlib.Core.List.{_++_};
 ghost use Prim.Native.Nat.{_+_, _-_, _*_, _<_, _≤_, _^_};
 ghost use lib.Dec.{leb, ltb};
-ghost use lib.ListN.{length, drop};
+ghost use lib.ListN.{length, take, drop};
 ghost use Rattle.octets.specs.Big.{bigFrom, bigAt, digits};
 ghost use Rattle.octets.specs.Wide.{wide, lowZero};
+ghost use Rattle.octets.specs.Blocks.{block};
 
 // The big-endian value of the bytes of s, after the digits that start stands for.
 pub fn big_from(start: u64, s: &[u8]) -> u64
@@ -46,24 +47,31 @@ pub fn put_digits(out: &mut [u8], n: usize, v: u64)
     }
 }
 
-// a ≤ b, as numbers of 128 bits.
+// a ≤ b, as numbers of 128 bits. The high words are asked for `<` first: asked for `==` first, the compiler makes one test of all four words, which waits for
+// each of them.
 pub fn at_most(a_hi: u64, a_lo: u64, b_hi: u64, b_lo: u64) -> bool
     ensures { λ r. ⌜ r ≡ leb (wide «a_hi» «a_lo») (wide «b_hi» «b_lo») ⌝ }
 {
+    if a_hi < b_hi {
+        return true;
+    }
     if a_hi == b_hi {
         return a_lo <= b_lo;
     }
-    a_hi < b_hi
+    false
 }
 
-// a < b, as numbers of 128 bits.
+// a < b, as numbers of 128 bits, in the same order.
 pub fn below(a_hi: u64, a_lo: u64, b_hi: u64, b_lo: u64) -> bool
     ensures { λ r. ⌜ r ≡ ltb (wide «a_hi» «a_lo») (wide «b_hi» «b_lo») ⌝ }
 {
+    if a_hi < b_hi {
+        return true;
+    }
     if a_hi == b_hi {
         return a_lo < b_lo;
     }
-    a_hi < b_hi
+    false
 }
 
 // Whether the k lowest bits of x are 0.
@@ -85,6 +93,36 @@ pub fn low_zero_wide(k: u64, hi: u64, lo: u64) -> bool
         return low_zero(k - 64, hi);
     }
     false
+}
+
+// The bytes of a block.
+const BLOCK: usize = 4096;
+
+// Copies all of src to the front of dst, and returns its length: as the kit's `bytes::copy`, block by block.
+pub fn copy(src: &[u8], dst: &mut [u8]) -> usize
+    requires { ⌜ length (now src) ≤ length (now dst) ⌝ }
+    ensures { λ r. ⌜ r ≡ length (now (src .entry)) ⌝ }
+    ensures { λ _. ⌜ now (dst .exit) ≡ take (length (now (src .entry))) (now (src .entry)) ++ drop (length (now (src .entry))) (now (dst .entry)) ⌝ }
+{
+    let n = src.len();
+    let mut done: usize = 0;
+    while BLOCK < n - done {
+        copy_block(&src[done..done + BLOCK], &mut dst[done..]);
+        done += BLOCK;
+    }
+    copy_block(&src[done..], &mut dst[done..]);
+    n
+}
+
+// The same of at most a block. The bytes go through an array that overlaps with neither slice: so the compiler knows that all of them may be read before one is
+// written, leaves the array out, and calls memmove. Without it the copy is a loop of 32 bytes a turn, for slices that might overlap.
+fn copy_block(src: &[u8], dst: &mut [u8])
+    requires { ⌜ (length (now src) ≤ block) × (length (now src) ≤ length (now dst)) ⌝ }
+    ensures { λ _. ⌜ now (dst .exit) ≡ now (src .entry) ++ drop (length (now (src .entry))) (now (dst .entry)) ⌝ }
+{
+    let mut through = [0u8; BLOCK];
+    let n = bytes::copy(src, &mut through);
+    bytes::copy(&through[..n], dst);
 }
 
 // Copies words to as many words.

@@ -22,6 +22,15 @@ pub fn put_bytes(out: &mut [u8], at: usize, value: &[u8]) -> usize
     at + n
 }
 
+// The same, for what may be long: few bytes are faster in the loop above.
+pub fn put_many(out: &mut [u8], at: usize, value: &[u8]) -> usize
+    requires { ⌜ at + length (now value) ≤ length (now out) ⌝ }
+    ensures { λ r. ⌜ Put (now (value .entry)) at (now (out .entry)) r (now (out .exit)) ⌝ }
+{
+    let n = octets::copy(value, &mut out[at..]);
+    at + n
+}
+
 // The n lowest bytes of v, big-endian.
 pub fn put_digits(out: &mut [u8], at: usize, n: usize, v: u64) -> usize
     requires { ⌜ at + n ≤ length (now out) ⌝ }

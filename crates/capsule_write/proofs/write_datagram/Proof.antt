@@ -17,8 +17,8 @@ returns-2 c = Frames.refused (Frames.room-says _ _ (omega arith) refl (Frames.va
 put-header-requires : tie.Need-put-header-requires
 put-header-requires c κs = search needs
 
-put-bytes-requires : tie.Need-put-bytes-requires
-put-bytes-requires c κs =
+put-many-requires : tie.Need-put-many-requires
+put-many-requires c κs =
     let h = Frames.header-most 0 (length (c .before .before .before .before .before .before .before .before .before .args .value .now)) (omega arith) (omega arith) in
     omega arith
 
@@ -29,9 +29,9 @@ returns-3 : tie.Need-returns-3
 returns-3 c =
     let v = c .before .before .before .before .before .before .before .before .before .before .before .before .args .value .now in
     Frames.wrote (Frames.room-says _ _ (omega arith) refl (Frames.value-goes _ (omega arith)))
-    (put-as (Frames.datagram-frame v) (Frames.put-frame 0 refl (c .before .before .before .before .before .before .put-header .ensures) (c .before .before .put-bytes .ensures)))
+    (put-as (Frames.datagram-frame v) (Frames.put-frame 0 refl (c .before .before .before .before .before .before .put-header .ensures) (c .before .before .put-many .ensures)))
 
 pub write-datagram-spec : {M : Type 1} → statement M
 write-datagram-spec =
     tie.close
-    (tie.spec returns returns-2 put-header-requires put-bytes-requires same-length returns-3)
+    (tie.spec returns returns-2 put-header-requires put-many-requires same-length returns-3)
