@@ -3,5 +3,7 @@ pub mod VersionRule
 pub mod EntryRule
 pub mod RangeRule
 pub mod ListScans
+pub mod RunLaws
+pub mod Joining
 pub mod Packing
 pub mod Views

@@ -1,11 +1,12 @@
 -- The loops over a list in words: where each starts, and the turns of the one over neighbours. Assumes nothing.
 use Prim.Native.Nat.{ℕ, _+_, _-_, _≤_, _<_}
 use mathlib.Core.Bool.{Bool, true, false}
-use mathlib.Core.Path.{_≡_, refl}
+use mathlib.Core.Path.{_≡_, refl, sym, ap, _∙_}
 use mathlib.Core.List.{List}
+use mathlib.Core.Logic.{⊎-elim}
 use native.Mathlib.Nat.{sub-zero}
 use native.Mathlib.Omega.{arith}
-use borrow.Author.Tests.{le-leb, lt-leb, leb-true}
+use borrow.Author.Tests.{le-leb, lt-leb, leb-true, lt-ltb}
 use lib.Dec.{leb}
 use lib.ListN.{length}
 use Rattle.answer.proofs.Tests.{and-both}
@@ -14,6 +15,8 @@ use Rattle.lists.specs.declared.RouteRange.{RouteRange}
 use Rattle.octets.specs.Scan.{from, anyOf, allOf}
 use Rattle.lists.specs.Rules.{soundEntry, soundRange, inOrder, beforeAll, soundAfter}
 use Rattle.lists.specs.Words.{maxAddresses, maxRanges, countOf, entryAt, rangeAt, entriesOf, rangesOf, soundAddresses, soundRoutes}
+use Rattle.lists.specs.Runs.{soundPast, Ran}
+use Rattle.lists.proofs.RangeRule as Range
 use Rattle.octets.proofs.Scans.{from-more, from-end, length-from, Seeking, Checking, any-start, all-start}
 
 -- what sound lists are
@@ -102,3 +105,46 @@ module _ {w : List ℕ} {n : ℕ} {a : RouteRange} {i : ℕ} (s : Judging w n a 
 
   pub judge-end : n ≤ i → true ≡ soundRoutes (rangesOf w)
   judge-end h = rw (from-end (rangeAt w) i n h) at (s .rest)
+
+-- a run behind a range that is sound and in order
+module _ {w : List ℕ} {n : ℕ} {a : RouteRange} {i : ℕ} (s : Judging w n a i) where
+  past : {r : RouteRange} → i < n → r ≡ rangeAt w i → soundRange r ≡ true → inOrder a r ≡ true
+      → soundPast w n i ≡ soundRoutes (rangesOf w)
+  past h q e g = rw q at (judge-next s h q e g .rest)
+
+  pub judge-run-broken : {r : RouteRange} {last : ℕ} {sound : Bool} → i < n → r ≡ rangeAt w i → soundRange r ≡ true
+      → inOrder a r ≡ true → Ran w n i last sound → sound ≡ false → false ≡ soundRoutes (rangesOf w)
+  judge-run-broken h q e g u t = sym (u .broken t) ∙ past h q e g
+
+  pub judge-run : {r b : RouteRange} {last : ℕ} {sound : Bool} → i < n → r ≡ rangeAt w i → soundRange r ≡ true
+      → inOrder a r ≡ true → Ran w n i last sound → sound ≡ true → b ≡ rangeAt w last → Judging w n b (last + 1)
+  judge-run {last = last} h q e g u t l =
+      let k = u .kept t in
+      record { within = omega (arith, k .0); rest = rw l (sym (k .2) ∙ past h q e g) }
+
+pub run-within : {w : List ℕ} {n j last : ℕ} {sound : Bool} → Ran w n j last sound → sound ≡ true → (last < n) × (j ≤ last)
+run-within u t = let k = u .kept t in (k .0, k .1)
+
+pub said-sound : {r x : RouteRange} → r ≡ x → soundRange r ≡ true → (soundRange x ≡ true) × (x .version ≡ r .version)
+said-sound q e = (ap soundRange (sym q) ∙ e, ap (λ (y : RouteRange). y .version) (sym q))
+
+-- a sound range may stand first: its version is not 0
+pub first-in-order : (r : RouteRange) → soundRange r ≡ true → inOrder beforeAll r ≡ true
+first-in-order r e =
+    let v : 0 < r .version = ⊎-elim (λ f. omega (arith, f)) (λ f. omega (arith, f)) (Range.range-facts r e .version .known) in
+    sym (Range.by-version beforeAll r (λ z. omega (arith, v, z))) ∙ lt-ltb 0 (r .version) v
+
+-- lists of none and of one
+module _ (w : List ℕ) where
+  pub judge-none : countOf w ≡ 0 → true ≡ soundRoutes (rangesOf w)
+  judge-none z = judge-end (judge w refl (omega arith)) (omega arith)
+
+  pub judge-one : {r : RouteRange} → countOf w ≡ 1 → r ≡ rangeAt w 0 → soundRange r ≡ soundRoutes (rangesOf w)
+  judge-one {r} z q = go (soundRange r) refl
+    where
+      start : Judging w (countOf w) beforeAll 0
+      start = judge w refl (omega arith)
+
+      go : (t : Bool) → soundRange r ≡ t → soundRange r ≡ soundRoutes (rangesOf w)
+      go true e = e ∙ judge-end (judge-next start (omega arith) q e (first-in-order r e)) (omega arith)
+      go false e = e ∙ judge-broken start (omega arith) q e

@@ -1,3 +1,5 @@
 pub mod Rules
 pub mod Words
+pub mod Runs
+pub mod Joined
 pub mod Examples

@@ -2,10 +2,14 @@
 // A list is one flat array of words: word 0 is the count, and each element has a fixed number of words after it. What stands past the
 // count is 0 where the box made the list, and is ignored where one is handed in. Nothing here refuses: the tests answer yes or no.
 ghost use mathlib.Core.Path.{_≡_};
-ghost use Prim.Native.Nat.{_≤_, _<_};
+ghost use mathlib.Core.Bool.{true};
+ghost use Prim.Native.Nat.{_+_, _*_, _^_, _≤_, _<_};
+ghost use lib.Dec.{ltb};
 ghost use lib.ListN.{length};
 ghost use Rattle.lists.specs.Rules.{soundEntry, soundRange, inOrder, beforeAll};
 ghost use Rattle.lists.specs.Words.{maxAddresses, maxRanges, addressWords, routeWords, entryAt, rangeAt, entriesOf, rangesOf, putEntry, putRange, soundAddresses, soundRoutes, noAddresses, noRoutes};
+ghost use Rattle.lists.specs.Runs.{Ran};
+ghost use Rattle.lists.specs.Joined.{Joins};
 
 // The most entries of an address list, and the most ranges of a route list.
 pub const MAX_ADDRESSES: usize = 32;
@@ -217,7 +221,41 @@ pub fn before_all() -> RouteRange
     }
 }
 
+// Entries of one tag put together: the bits of all their words, and where the next entry stands.
+pub struct Joined {
+    pub next: usize,
+    pub id: u64,
+    pub hi: u64,
+    pub lo: u64,
+}
+
+// The entries from i on that have its tag.
+fn join(w: &[u64], i: usize, n: usize) -> Joined
+    requires { ⌜ addressWords ≤ length (now w) ⌝ }
+    requires { ⌜ (i < n) × (n ≤ maxAddresses) ⌝ }
+    ensures { λ r. ⌜ Joins (now (w .entry)) i n r ⌝ }
+{
+    let b = i * WORDS_PER_ENTRY;
+    let mut id = w[b + 1];
+    let tag = w[b + 2];
+    let mut hi = w[b + 3];
+    let mut lo = w[b + 4];
+    let mut next = i + 1;
+    while next < n {
+        let b = next * WORDS_PER_ENTRY;
+        if w[b + 2] != tag {
+            return Joined { next, id, hi, lo };
+        }
+        id = id | w[b + 1];
+        hi = hi | w[b + 3];
+        lo = lo | w[b + 4];
+        next += 1;
+    }
+    Joined { next, id, hi, lo }
+}
+
 // Whether the words are a sound list of addresses: the count within the limit, and every entry sound.
+// Entries of one tag, version and prefix, are judged at once: all are sound where the bits of all of them are.
 pub fn addresses_sound(w: &[u64]) -> bool
     requires { ⌜ addressWords ≤ length (now w) ⌝ }
     ensures { λ r. ⌜ r ≡ soundAddresses (entriesOf (now (w .entry))) ⌝ }
@@ -229,16 +267,148 @@ pub fn addresses_sound(w: &[u64]) -> bool
     let n = count as usize;
     let mut i: usize = 0;
     while i < n {
-        let e = entry_at(w, i);
+        let tag = w[i * WORDS_PER_ENTRY + 2];
+        let all = join(w, i, n);
+        let e = AddressEntry {
+            request_id: RequestId(all.id),
+            version: (tag % 256) as u8,
+            prefix: (tag / 256 % 256) as u8,
+            hi: all.hi,
+            lo: all.lo,
+        };
         if !entry_sound(e) {
             return false;
         }
-        i += 1;
+        i = all.next;
     }
     true
 }
 
+// A run of ranges of one tag, version and protocol: where its last one stands, and whether all behind its first are sound and in order.
+pub struct Run {
+    pub last: usize,
+    pub sound: bool,
+}
+
+// The bits of three words: 0 where all are 0.
+fn bits_of(a: u64, b: u64, c: u64) -> u64
+    ensures { λ r. ⌜ (a ≤ r) × (b ≤ r) × (c ≤ r) × (r ≤ a + b + c) ⌝ }
+{
+    a | b | c
+}
+
+// The end of a run of IPv4 ranges: nothing stands in a high word, and the last and greatest end is below 2^32.
+fn ended(last: usize, high: u64, end: u64) -> Run
+    ensures { λ r. ⌜ (r .last ≡ last) × (r .sound ≡ ltb (high * 2 ^ 32 + end) (2 ^ 32)) ⌝ }
+{
+    if high != 0 {
+        return Run { last, sound: false };
+    }
+    let sound = end < IPV4_END;
+    Run { last, sound }
+}
+
+// The run of IPv4 ranges behind range j, which is sound. The high words are judged at the end of the run, and so is the greatest end.
+fn run4(w: &[u64], j: usize, n: usize) -> Run
+    requires { ⌜ routeWords ≤ length (now w) ⌝ }
+    requires { ⌜ (j < n) × (n ≤ maxRanges) ⌝ }
+    requires { ⌜ (soundRange (rangeAt (now w) j) ≡ true) × (rangeAt (now w) j .version ≡ 4) ⌝ }
+    ensures { λ r. ⌜ Ran (now (w .entry)) n j (r .last) (r .sound) ⌝ }
+{
+    let b = j * WORDS_PER_RANGE;
+    let tag = w[b + 1];
+    let mut end = w[b + 5];
+    let mut high: u64 = 0;
+    let mut i = j;
+    while i + 1 < n {
+        let k = i + 1;
+        let b = k * WORDS_PER_RANGE;
+        let own = w[b + 1];
+        if own != tag {
+            return ended(i, high, end);
+        }
+        high = bits_of(high, w[b + 2], w[b + 4]);
+        let start = w[b + 3];
+        if start <= end {
+            return Run {
+                last: i,
+                sound: false,
+            };
+        }
+        let next = w[b + 5];
+        if next < start {
+            return Run {
+                last: i,
+                sound: false,
+            };
+        }
+        end = next;
+        i = k;
+    }
+    ended(i, high, end)
+}
+
+// The run of IPv6 ranges behind range j.
+fn run6(w: &[u64], j: usize, n: usize) -> Run
+    requires { ⌜ routeWords ≤ length (now w) ⌝ }
+    requires { ⌜ (j < n) × (n ≤ maxRanges) ⌝ }
+    requires { ⌜ (soundRange (rangeAt (now w) j) ≡ true) × (rangeAt (now w) j .version ≡ 6) ⌝ }
+    ensures { λ r. ⌜ Ran (now (w .entry)) n j (r .last) (r .sound) ⌝ }
+{
+    let b = j * WORDS_PER_RANGE;
+    let tag = w[b + 1];
+    let mut hi = w[b + 4];
+    let mut lo = w[b + 5];
+    let mut i = j;
+    while i + 1 < n {
+        let k = i + 1;
+        let b = k * WORDS_PER_RANGE;
+        let own = w[b + 1];
+        if own != tag {
+            return Run {
+                last: i,
+                sound: true,
+            };
+        }
+        let start_hi = w[b + 2];
+        let start_lo = w[b + 3];
+        if !octets::below(hi, lo, start_hi, start_lo) {
+            return Run {
+                last: i,
+                sound: false,
+            };
+        }
+        hi = w[b + 4];
+        lo = w[b + 5];
+        if !octets::at_most(start_hi, start_lo, hi, lo) {
+            return Run {
+                last: i,
+                sound: false,
+            };
+        }
+        i = k;
+    }
+    Run {
+        last: i,
+        sound: true,
+    }
+}
+
+// The run behind range j, of its version.
+fn run_behind(w: &[u64], j: usize, n: usize, version: u8) -> Run
+    requires { ⌜ routeWords ≤ length (now w) ⌝ }
+    requires { ⌜ (j < n) × (n ≤ maxRanges) ⌝ }
+    requires { ⌜ (soundRange (rangeAt (now w) j) ≡ true) × (rangeAt (now w) j .version ≡ version) ⌝ }
+    ensures { λ r. ⌜ Ran (now (w .entry)) n j (r .last) (r .sound) ⌝ }
+{
+    if version == 4 {
+        return run4(w, j, n);
+    }
+    run6(w, j, n)
+}
+
 // Whether the words are a sound list of routes: the count within the limit, every range sound, neighbours in order.
+// The first range of each run is judged by itself, and the run behind it by what is left to test there.
 pub fn routes_sound(w: &[u64]) -> bool
     requires { ⌜ routeWords ≤ length (now w) ⌝ }
     ensures { λ r. ⌜ r ≡ soundRoutes (rangesOf (now (w .entry))) ⌝ }
@@ -248,6 +418,14 @@ pub fn routes_sound(w: &[u64]) -> bool
         return false;
     }
     let n = count as usize;
+    // short lists have no order to judge
+    if n == 0 {
+        return true;
+    }
+    if n == 1 {
+        let r = range_at(w, 0);
+        return range_sound(r);
+    }
     let mut last = before_all();
     let mut i: usize = 0;
     while i < n {
@@ -258,8 +436,14 @@ pub fn routes_sound(w: &[u64]) -> bool
         if !in_order(last, r) {
             return false;
         }
-        last = r;
-        i += 1;
+        let v = r.version;
+        let behind = run_behind(w, i, n, v);
+        if !behind.sound {
+            return false;
+        }
+        let k = behind.last;
+        last = range_at(w, k);
+        i = k + 1;
     }
     true
 }
