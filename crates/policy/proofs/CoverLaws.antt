@@ -1,7 +1,7 @@
 -- An entry that covers an address, by its cases in the code's order; a declined request and an entry of prefix 0. Assumes nothing.
 use Prim.Native.Nat.{ℕ, _^_, _<_}
-use mathlib.Core.Bool.{Bool, true, false, not, _&&_}
-use mathlib.Core.Path.{_≡_, refl, sym, _∙_}
+use mathlib.Core.Bool.{Bool, true, false, not, and-true, and-false}
+use mathlib.Core.Path.{_≡_, refl}
 use native.Mathlib.Nat.{sub-zero, div-eq-of-lt}
 use native.Mathlib.Omega.{arith}
 use borrow.Author.Tests.{eq-eqb, ne-eqb}
@@ -11,10 +11,6 @@ use Rattle.lists.specs.declared.AddressEntry.{AddressEntry}
 use Rattle.lists.specs.Rules.{widthOf, addressOf, soundEntry}
 use Rattle.policy.specs.Granted.{addressValue, declined, beyond, highBits, covers}
 use Rattle.policy.proofs.AddressBounds.{entry-within}
-
-and-false : (a : Bool) → (a && false) ≡ false
-and-false true = refl
-and-false false = refl
 
 -- a declined request
 module _ (e : AddressEntry) where
@@ -41,16 +37,16 @@ module _ (a : Address) (e : AddressEntry) where
   unfolding covers
   covers-other-version n = simp (ne-eqb (e .version) (a .version) n)
 
-  pub covers-declined : declined e ≡ true → covers a e ≡ false
+  -- the high bits differ
+  pub covers-apart : {k : ℕ} → k ≡ beyond e → eqb (highBits k (addressOf e)) (highBits k (addressValue a)) ≡ false → false ≡ covers a e
   unfolding covers
-  covers-declined d = rw d (and-false (eqb (e .version) (a .version)))
+  covers-apart k q = simp (← k, q, and-false)
 
-  pub covers-high : {k : ℕ} {b t : Bool} → e .version ≡ a .version → b ≡ declined e → b ≡ false → k ≡ beyond e
-      → t ≡ eqb (highBits k (addressOf e)) (highBits k (addressValue a)) → t ≡ covers a e
+  -- they agree
+  pub covers-agreeing : {k : ℕ} {b : Bool} → e .version ≡ a .version → k ≡ beyond e
+      → eqb (highBits k (addressOf e)) (highBits k (addressValue a)) ≡ true → b ≡ declined e → not b ≡ covers a e
   unfolding covers
-  covers-high v d f k q =
-      let z : declined e ≡ false = sym d ∙ f in
-      rw (eq-eqb (e .version) (a .version) v, z, ← k) q
+  covers-agreeing v k q d = rw (eq-eqb (e .version) (a .version) v, ← k, q, ← d, and-true)
 
   -- of prefix 0 every address of the version is covered
   pub covers-prefix-zero : e .prefix ≡ 0 → e .version ≡ a .version → addressOf e < 2 ^ widthOf (e .version)

@@ -12,10 +12,11 @@ use Rattle.inet.proofs.HeaderLaws.{isIcmp-6}
 use Rattle.inet.proofs.LoweredLaws.{lowered-sourceOf, lowered-destinationOf, lowered-protocolOf, lowered-isIcmp}
 use Rattle.lists.specs.declared.RouteRange.{RouteRange}
 use Rattle.octets.specs.Scan.{anyOf}
-use Rattle.lists.specs.Words.{maxAddresses, maxRanges, addressWords, routeWords, countOf, soundAddresses, soundRoutes}
-use Rattle.lists.proofs.ListScans.{entries-within, ranges-within}
+use Rattle.lists.specs.Words.{maxAddresses, addressWords, routeWords, countOf, rangesOf, soundAddresses, soundRoutes}
+use Rattle.lists.proofs.ListScans.{entries-within}
 use Rattle.policy.specs.declared.Flow.{Flow}
 use Rattle.policy.specs.Granted.{flowOf, covers, holds, admits, Side, sideIn, soundSide, granted, passes, reversed}
+use Rattle.policy.specs.Parts.{grantedBy}
 
 -- ---- flows
 
@@ -45,12 +46,12 @@ or-true : (a : Bool) → (a || true) ≡ true
 or-true true = refl
 or-true false = refl
 
-module _ (s : Side) (near far : Address) (f : Flow) where
-  pub granted-uncovered : anyOf (covers near) (s .addresses) ≡ false → false ≡ granted s near far f
+module _ (s : Side) (near far : Address) (p : ℕ) (icmp : Bool) where
+  pub granted-uncovered : anyOf (covers near) (s .addresses) ≡ false → false ≡ grantedBy s near far p icmp
   granted-uncovered e = rw e
 
-  pub granted-covered : {t : Bool} → anyOf (covers near) (s .addresses) ≡ true
-      → t ≡ anyOf (admits far (f .protocol) (f .icmp)) (s .routes) → t ≡ granted s near far f
+  pub granted-covered : {t : Bool} → anyOf (covers near) (s .addresses) ≡ true → t ≡ anyOf (admits far p icmp) (s .routes)
+      → t ≡ grantedBy s near far p icmp
   granted-covered e q = rw e q
 
 module _ (s r : Side) (f : Flow) where
@@ -109,10 +110,10 @@ module _ (s : Side) where
   unfolding soundSide
   side-routes e q = rw e q
 
--- the counts of a sound side are within their limits
+-- a sound side's addresses are within their limit, and its routes keep their rules
 module _ (w : List ℕ) (s : soundSide (sideIn w) ≡ true) where
   pub addresses-within : countOf (part w 0 addressWords) ≤ maxAddresses
   addresses-within = entries-within (part w 0 addressWords) (side-facts (sideIn w) s .0)
 
-  pub routes-within : countOf (part w addressWords routeWords) ≤ maxRanges
-  routes-within = ranges-within (part w addressWords routeWords) (side-facts (sideIn w) s .1)
+  pub routes-kept : soundRoutes (rangesOf (part w addressWords routeWords)) ≡ true
+  routes-kept = side-facts (sideIn w) s .1

@@ -29,17 +29,17 @@ pub(crate) fn any_covers(w: &[u64], a: Address) -> bool
     false
 }
 
-// Whether an entry covers an address.
+// Whether an entry covers an address. Few entries agree with it: only those are asked whether they were declined.
 fn covers(e: AddressEntry, a: Address) -> bool
     ensures { λ r. ⌜ r ≡ covers a e ⌝ }
 {
     if e.version != a.version {
         return false;
     }
-    if is_declined(e) {
+    if !same_high(beyond(e), e.hi, e.lo, a.hi, a.lo) {
         return false;
     }
-    same_high(beyond(e), e.hi, e.lo, a.hi, a.lo)
+    !is_declined(e)
 }
 
 // Whether an entry is a declined request.

@@ -12,7 +12,8 @@ ghost use mathlib.Core.Bool.{true};
 ghost use Prim.Native.Nat.{_≤_};
 ghost use lib.ListN.{length};
 ghost use Rattle.inet.specs.Packet.{Form};
-ghost use Rattle.policy.specs.Granted.{flowOf, sideWords, sideIn, soundSide, granted, passes};
+ghost use Rattle.policy.specs.Granted.{flowOf, sideWords, sideIn, soundSide, passes};
+ghost use Rattle.policy.specs.Parts.{address, grantedBy};
 
 // The words of a side: its addresses, then its routes.
 pub const SIDE_WORDS: usize = ADDRESS_WORDS + ROUTE_WORDS;
@@ -60,20 +61,68 @@ pub fn passes<'a>(side: &'a [u64], reply: &'a [u64], f: Flow) -> bool
     requires { ⌜ (soundSide (sideIn (now side)) ≡ true) × (soundSide (sideIn (now reply)) ≡ true) ⌝ }
     ensures { λ r. ⌜ r ≡ passes (sideIn (now (side .entry))) (sideIn (now (reply .entry))) f ⌝ }
 {
-    if granted(side, f.source, f.destination, f) {
+    let s = f.source;
+    let d = f.destination;
+    if granted(
+        side,
+        s.version,
+        s.hi,
+        s.lo,
+        d.version,
+        d.hi,
+        d.lo,
+        f.protocol,
+        f.icmp,
+    ) {
         return true;
     }
-    granted(reply, f.destination, f.source, f)
+    granted(
+        reply,
+        d.version,
+        d.hi,
+        d.lo,
+        s.version,
+        s.hi,
+        s.lo,
+        f.protocol,
+        f.icmp,
+    )
 }
 
-// Whether the near end's address is covered, and the far end's lies in a range that allows the protocol.
-fn granted(side: &[u64], near: Address, far: Address, f: Flow) -> bool
+// Whether the near end's address is covered, and the far end's lies in a range that allows the protocol. All but the lists are numbers: a struct
+// would go through memory, in other sizes than it was stored in.
+fn granted(
+    side: &[u64],
+    near: u8,
+    near_hi: u64,
+    near_lo: u64,
+    far: u8,
+    far_hi: u64,
+    far_lo: u64,
+    protocol: u8,
+    icmp: bool,
+) -> bool
     requires { ⌜ sideWords ≤ length (now side) ⌝ }
     requires { ⌜ soundSide (sideIn (now side)) ≡ true ⌝ }
-    ensures { λ r. ⌜ r ≡ granted (sideIn (now (side .entry))) near far f ⌝ }
+    ensures { λ r. ⌜ r ≡ grantedBy (sideIn (now (side .entry))) (address near «near_hi» «near_lo») (address far «far_hi» «far_lo») protocol icmp ⌝ }
 {
-    if !cover::any_covers(&side[0..ADDRESS_WORDS], near) {
+    let source = Address {
+        version: near,
+        hi: near_hi,
+        lo: near_lo,
+    };
+    if !cover::any_covers(&side[0..ADDRESS_WORDS], source) {
         return false;
     }
-    admit::any_admits(&side[ADDRESS_WORDS..SIDE_WORDS], far, f.protocol, f.icmp)
+    let destination = Address {
+        version: far,
+        hi: far_hi,
+        lo: far_lo,
+    };
+    admit::any_admits(
+        &side[ADDRESS_WORDS..SIDE_WORDS],
+        destination,
+        protocol,
+        icmp,
+    )
 }

@@ -1,7 +1,8 @@
--- The near end is covered or not, and then the far end is admitted or not; a sound side's counts are within their limits. Assumes nothing.
+-- The near end is covered or not, and then the far end is admitted or not; a sound side's lists keep what the two searches require. Assumes nothing.
 use Rattle.lists.proofs.Calls.{called-true, called-false}
 use Rattle.policy.specs.Granted.{sideIn}
-use Rattle.policy.proofs.PassLaws.{granted-uncovered, granted-covered, addresses-within, routes-within}
+use Rattle.policy.specs.Parts.{address}
+use Rattle.policy.proofs.PassLaws.{granted-uncovered, granted-covered, addresses-within, routes-kept}
 use borrow.Author.Needs.{needs}
 use Rattle.policy.proofs.granted.Statement.{statement}
 use Rattle.policy.proofs.granted.Tie as tie
@@ -21,7 +22,7 @@ any-covers-requires c κs = (search needs, addresses-within (c .before .before .
 returns : tie.Need-returns
 returns c =
     let a = c .before .before .before .before .args in
-    granted-uncovered (sideIn (a .side .now)) (a .near) (a .far) (a .f) (called-false (c .before .any-covers .ensures) (c .if1 .taken))
+    granted-uncovered (sideIn (a .side .now)) (address (a .near) (a .near-hi) (a .near-lo)) (address (a .far) (a .far-hi) (a .far-lo)) (a .protocol) (a .icmp) (called-false (c .before .any-covers .ensures) (c .if1 .taken))
 
 sub-any-admits : tie.Need-sub-any-admits
 sub-any-admits c = search needs
@@ -33,12 +34,12 @@ part-any-admits-end : tie.Need-part-any-admits-end
 part-any-admits-end c = search needs
 
 any-admits-requires : tie.Need-any-admits-requires
-any-admits-requires c κs = (search needs, routes-within (c .before .before .before .before .before .args .side .now) (c .before .before .before .before .before .pre .1))
+any-admits-requires c κs = (search needs, routes-kept (c .before .before .before .before .before .args .side .now) (c .before .before .before .before .before .pre .1))
 
 returns-2 : tie.Need-returns-2
 returns-2 c =
     let a = c .before .before .before .before .before .before .args in
-    granted-covered (sideIn (a .side .now)) (a .near) (a .far) (a .f) (called-true (c .before .before .before .any-covers .ensures) (c .before .before .if1 .left)) (c .any-admits .ensures)
+    granted-covered (sideIn (a .side .now)) (address (a .near) (a .near-hi) (a .near-lo)) (address (a .far) (a .far-hi) (a .far-lo)) (a .protocol) (a .icmp) (called-true (c .before .before .before .any-covers .ensures) (c .before .before .if1 .left)) (c .any-admits .ensures)
 
 pub granted-spec : {M : Type 1} → statement M
 granted-spec =

@@ -11,7 +11,7 @@ granted-requires c κs = search needs
 
 returns : tie.Need-returns
 returns c =
-    let a = c .before .before .before .before .args in
+    let a = c .before .before .before .before .before .before .args in
     sym (passes-granted (sideIn (a .side .now)) (sideIn (a .reply .now)) (a .f) (sym (c .before .granted .ensures) ∙ c .if1 .taken))
 
 granted-requires-2 : tie.Need-granted-requires-2
@@ -19,7 +19,7 @@ granted-requires-2 c κs = search needs
 
 returns-2 : tie.Need-returns-2
 returns-2 c =
-    let a = c .before .before .before .before .before .args in
+    let a = c .before .before .before .before .before .before .before .args in
     passes-reply (sideIn (a .side .now)) (sideIn (a .reply .now)) (a .f) (sym (c .before .before .granted .ensures) ∙ c .before .if1 .left) (c .granted2 .ensures)
 
 pub passes-spec : {M : Type 1} → statement M
