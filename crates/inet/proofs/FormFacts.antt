@@ -8,7 +8,7 @@ use native.Mathlib.Omega.{arith}
 use lib.ListN.{length}
 use borrow.Author.Tests.{leb-true, eqb-true, le-leb, eq-eqb}
 use Rattle.answer.proofs.Tests.{and-both, only-false}
-use Rattle.inet.specs.Packet.{versionOf, form4, form6, form, Form4, Form6, Form}
+use Rattle.inet.specs.Packet.{versionOf, form4, form6, form, Form4, Form6, Form, Headed4, Headed6, Headed}
 
 pub form4-facts : (p : List ℕ) → form4 p ≡ true → Form4 p
 unfolding form4
@@ -83,18 +83,11 @@ facts-form p f = form-kind p (f .kind)
 pub form-fails : (p : List ℕ) → (Form p → ⊥) → form p ≡ false
 form-fails p h = only-false (form p) (λ e. h (form-facts p e))
 
-kind-4 : (p : List ℕ) → Form4 p ⊎ Form6 p → versionOf p ≡ 4 → Form4 p
-kind-4 p (inl f) e = f
-kind-4 p (inr f) e = absurd (omega arith)
-
 kind-6 : (p : List ℕ) → Form4 p ⊎ Form6 p → (versionOf p ≡ 4 → ⊥) → Form6 p
 kind-6 p (inl f) n = absurd (n (f .four))
 kind-6 p (inr f) n = f
 
--- a packet of good form is one of the kind that its version says
-pub is-form4 : (p : List ℕ) → Form p → versionOf p ≡ 4 → Form4 p
-is-form4 p f e = kind-4 p (f .kind) e
-
+-- a packet of good form that is not IPv4 is IPv6
 pub is-form6 : (p : List ℕ) → Form p → (versionOf p ≡ 4 → ⊥) → Form6 p
 is-form6 p f n = kind-6 p (f .kind) n
 
@@ -120,3 +113,26 @@ kind-other p n m (inr f) = m (f .six)
 
 pub form-of-other : (p : List ℕ) → (versionOf p ≡ 4 → ⊥) → (versionOf p ≡ 6 → ⊥) → form p ≡ false
 form-of-other p n m = form-fails p (λ f. kind-other p n m (f .kind))
+
+-- what lowering looks at, version by version
+headed-kind-4 : (p : List ℕ) → Headed4 p ⊎ Headed6 p → versionOf p ≡ 4 → Headed4 p
+headed-kind-4 p (inl f) e = f
+headed-kind-4 p (inr f) e = absurd (omega arith)
+
+headed-kind-6 : (p : List ℕ) → Headed4 p ⊎ Headed6 p → (versionOf p ≡ 4 → ⊥) → Headed6 p
+headed-kind-6 p (inl f) n = absurd (n (f .four))
+headed-kind-6 p (inr f) n = f
+
+pub is-headed4 : (p : List ℕ) → Headed p → versionOf p ≡ 4 → Headed4 p
+is-headed4 p f e = headed-kind-4 p (f .kind) e
+
+pub is-headed6 : (p : List ℕ) → Headed p → (versionOf p ≡ 4 → ⊥) → Headed6 p
+is-headed6 p f n = headed-kind-6 p (f .kind) n
+
+form-headed-kind : (p : List ℕ) → Form4 p ⊎ Form6 p → Headed p
+form-headed-kind p (inl f) = record { kind = inl (record { long = f .long; four = f .four; ihl = f .ihl; head = f .head }) }
+form-headed-kind p (inr f) = record { kind = inr (record { long = omega arith; six = f .six }) }
+
+-- a packet of good form has it
+pub form-headed : (p : List ℕ) → Form p → Headed p
+form-headed p f = form-headed-kind p (f .kind)

@@ -4,3 +4,4 @@ pub mod HeaderLaws
 pub mod FieldLaws
 pub mod LoweredLaws
 pub mod TransportLaws
+pub mod FrontLaws

@@ -11,10 +11,10 @@ use lib.Dec.{eqb}
 use borrow.Author.Tests.{eqb-true, eqb-false}
 use Rattle.answer.specs.Choice.{pick}
 use Rattle.inet.specs.Sum.{words, fold}
-use Rattle.inet.specs.Packet.{versionOf, headerLength, form, Form, Form4, Form6, address4At, address6At, sourceOf, destinationOf}
+use Rattle.inet.specs.Packet.{versionOf, headerLength, form, Form, Form4, Form6, Headed4, Headed, address4At, address6At, sourceOf, destinationOf}
 use Rattle.inet.specs.Packet.{protocolOf, protocolByte, isIcmp, hopsOf, put16, hop4, hop6, headerCheck, lowered4, lowered}
 use Rattle.inet.proofs.WordLaws.{words-pos}
-use Rattle.inet.proofs.FormFacts.{form-facts, facts-form, form-4, form-6, is-form4}
+use Rattle.inet.proofs.FormFacts.{form-facts, facts-form, form-4, form-6, is-headed4, is-headed6}
 use Rattle.inet.proofs.HeaderLaws.{pick-4, pick-6, hopsOf-4, hopsOf-not-4}
 use Rattle.inet.proofs.FieldLaws.{put-length, put-other, put-take, put-drop, put-put, put-completes}
 
@@ -202,11 +202,11 @@ pub lowered-hopsOf : (p : List ℕ) → Form p → hopsOf (lowered p) ≡ hopsOf
 lowered-hopsOf p f = kind-hops p (f .kind)
 
 -- the steps by which the code lowers an IPv4 packet
-pub lower4-steps : (p q r : List ℕ) (sum f : ℕ) → q ≡ put16 (hop4 p) 10 0 → sum ≡ words (take (headerLength p) q) → f ≡ fold sum → r ≡ put16 q 10 (65535 - f) → r ≡ lowered4 p
+pub lower4-steps : (p q r : List ℕ) (f : ℕ) → q ≡ put16 (hop4 p) 10 0 → f ≡ fold (words (take (headerLength p) q)) → r ≡ put16 q 10 (65535 - f) → r ≡ lowered4 p
 unfolding lowered4 headerCheck
-lower4-steps p q r sum f e1 e2 e3 e4 =
+lower4-steps p q r f e1 e2 e3 =
     let e : getD (hop4 p) 0 0 ≡ getD p 0 0 = getD-set-other p 8 0 _ 0 (omega arith) in
-    rw (e4, e3, e2, e1, put-put, e)
+    rw (e3, e2, e1, put-put, e)
 
 -- the steps by which the code copies a packet and lowers the copy
 module _ (p e d : List ℕ) (c : e ≡ take (length p) p ++ d) where
@@ -219,11 +219,11 @@ module _ (p e d : List ℕ) (c : e ≡ take (length p) p ++ d) where
   front-drop : drop (length p) e ≡ d
   front-drop = rw copied (drop-append-seam p d)
 
-  pub front-4 : Form p → 1 ≤ hopsOf p → versionOf p ≡ 4 → Form4 (take (length p) e) × (1 ≤ getD (take (length p) e) 8 0)
-  front-4 f h v = let g = is-form4 p f v in rw front-take (g, omega (arith, hopsOf-4 p v))
+  pub front-4 : Headed p → 1 ≤ hopsOf p → versionOf p ≡ 4 → Headed4 (take (length p) e) × (1 ≤ getD (take (length p) e) 8 0)
+  front-4 f h v = rw front-take (is-headed4 p f v, omega (arith, hopsOf-4 p v))
 
-  pub front-6 : Form p → 1 ≤ hopsOf p → (versionOf p ≡ 4 → ⊥) → (8 ≤ length (take (length p) e)) × (1 ≤ getD (take (length p) e) 7 0)
-  front-6 f h n = rw front-take (omega arith, omega (arith, hopsOf-not-4 p n))
+  pub front-6 : Headed p → 1 ≤ hopsOf p → (versionOf p ≡ 4 → ⊥) → (8 ≤ length (take (length p) e)) × (1 ≤ getD (take (length p) e) 7 0)
+  front-6 f h n = rw front-take (is-headed6 p f n .long, omega (arith, hopsOf-not-4 p n))
 
   pub lower-steps-4 : (q : List ℕ) → versionOf p ≡ 4 → q ≡ lowered4 (take (length p) e) → q ++ drop (length p) e ≡ lowered p ++ d
   lower-steps-4 q h k = rw (k, front-take, front-drop, lowered-4 p h)

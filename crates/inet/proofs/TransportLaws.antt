@@ -13,7 +13,7 @@ use Rattle.inet.specs.Sum.{words, fold}
 use Rattle.inet.specs.SumLaws.{fold-fits, fold-completes}
 use Rattle.inet.specs.Packet.{versionOf, protocolByte, put16, lowered}
 use Rattle.inet.specs.Transport.{addressWords, pseudoSum, seed, setField, fieldIs, sent, finish, completion, damaged}
-use Rattle.inet.proofs.WordLaws.{fold-add}
+use Rattle.inet.proofs.WordLaws.{fold-add, fold-cong}
 use Rattle.inet.proofs.HeaderLaws.{pick-4, pick-not-4}
 use Rattle.inet.proofs.FieldLaws.{put-other, drop-put-from, words-put}
 use Rattle.inet.proofs.LoweredLaws.{pick-same, lowered-length, lowered-version, lowered-at, lowered-drop, lowered-drop-6, lowered-protocolByte}
@@ -27,6 +27,14 @@ module _ (p : List ℕ) where
   pub addressWords-not-4 : (versionOf p ≡ 4 → ⊥) → addressWords p ≡ words (take 32 (drop 8 p))
   unfolding addressWords
   addressWords-not-4 n = pick-not-4 (versionOf p) (words (take 8 (drop 12 p))) (words (take 32 (drop 8 p))) 0 n
+
+-- the steps by which the code makes a seed
+pub seed-steps : (start : ℕ) (p : List ℕ) (r b l : ℕ) → fold r ≡ fold (addressWords p) → b ≡ protocolByte p → l ≡ length p - start → fold (r + b + l) ≡ seed start p
+unfolding seed
+seed-steps start p r b l e f g =
+    let x : r + b + l ≡ r + (protocolByte p + (length p - start)) = omega arith in
+    let y : addressWords p + (protocolByte p + (length p - start)) ≡ pseudoSum start p = omega arith in
+    ap fold x ∙ fold-cong r (addressWords p) (protocolByte p + (length p - start)) e ∙ ap fold y
 
 -- a checksum as it is sent
 module _ (protocol s : ℕ) where

@@ -1,10 +1,10 @@
 -- The laws of `words` and `fold` that proofs cite, beside those of `SumLaws`. Assumes nothing.
 use mathlib.Core.Path.{_≡_, refl, ap, sym, _∙_}
 use mathlib.Core.List.{List, [], _∷_}
-use Prim.Native.Nat.{ℕ, zero, suc, _+_, _-_, _*_, _/_, _≤_, _<_}
+use Prim.Native.Nat.{ℕ, zero, suc, _+_, _-_, _*_, _/_, _%_, _≤_, _<_}
 use native.Mathlib.Omega.{arith}
 use native.Mathlib.Numerals.{add-one}
-use lib.ListN.{length, drop, getD, drop-of-length-le}
+use lib.ListN.{length, take, drop, getD, drop-of-length-le}
 use lib.Seq.{drop-cons}
 use Rattle.inet.specs.Sum.{words, fold}
 
@@ -34,6 +34,17 @@ fold-add (suc a) b =
     let e : suc a + b ≡ (fold (suc a) + b) + 65535 * ((suc a - 1) / 65535) = omega (arith, fold-quot (suc a)) in
     sym (ap fold e ∙ fold-past (fold (suc a) + b) ((suc a - 1) / 65535) (omega arith))
 
+-- what folds alike folds alike with the same added
+pub fold-cong : (a b k : ℕ) → fold a ≡ fold b → fold (a + k) ≡ fold (b + k)
+fold-cong a b k e = sym (fold-add a k) ∙ ap (λ (n : ℕ). fold (n + k)) e ∙ fold-add b k
+
+-- a word may count 65536 times, since that is 1 more than 65535
+pub fold-high : (a x : ℕ) → fold (x + 65536 * a) ≡ fold (x + a)
+fold-high zero x = refl
+fold-high (suc a) x =
+    let e : x + 65536 * suc a ≡ (x + suc a) + 65535 * suc a = omega arith in
+    ap fold e ∙ fold-past (x + suc a) (suc a) (omega arith)
+
 -- the words from i on are the word at i and the words from i + 2 on
 pub words-step : (s : List ℕ) (i : ℕ) → i + 1 < length s → words (drop i s) ≡ getD s i 0 * 256 + getD s (i + 1) 0 + words (drop (i + 2) s)
 unfolding words
@@ -42,6 +53,16 @@ words-step s i h =
     let k : i < length s = omega arith in
     let k2 : suc i < length s = omega arith in
     rw (e, add-one, drop-cons s i 0, drop-cons s (suc i) 0)
+
+-- the four bytes at i as two words
+pub words-quad : (s : List ℕ) (i : ℕ) → i + 3 < length s
+    → words (drop i s) ≡ getD s i 0 * 256 + getD s (i + 1) 0 + (getD s (i + 2) 0 * 256 + getD s (i + 3) 0) + words (drop (i + 4) s)
+words-quad s i h =
+    let three : i + 2 + 1 ≡ i + 3 = omega arith in
+    let four : i + 2 + 2 ≡ i + 4 = omega arith in
+    let b : getD s (i + 2 + 1) 0 ≡ getD s (i + 3) 0 = ap (λ (n : ℕ). getD s n 0) three in
+    let r : words (drop (i + 2 + 2) s) ≡ words (drop (i + 4) s) = ap (λ (n : ℕ). words (drop n s)) four in
+    omega (arith, words-step s i (omega arith), words-step s (i + 2) (omega arith))
 
 -- a last byte alone
 pub words-last : (s : List ℕ) (i : ℕ) → i + 1 ≡ length s → words (drop i s) ≡ getD s i 0 * 256
@@ -62,3 +83,12 @@ unfolding words
 words-pos [] h = h
 words-pos (a ∷ []) h = omega arith
 words-pos (a ∷ b ∷ r) h = omega arith
+
+-- the words of a front of even length and of the rest
+pub words-cut : (n : ℕ) (l : List ℕ) → n % 2 ≡ 0 → words l ≡ words (take n l) + words (drop n l)
+unfolding words
+words-cut zero l h = omega arith
+words-cut (suc zero) l h = absurd (omega arith)
+words-cut (suc (suc n)) [] h = refl
+words-cut (suc (suc n)) (a ∷ []) h = omega arith
+words-cut (suc (suc n)) (a ∷ b ∷ r) h = omega (arith, words-cut n r (omega arith))

@@ -113,8 +113,22 @@ lowered4 p = put16 (hop4 p) 10 (headerCheck (hop4 p))
 unfoldable pub lowered : List ℕ → List ℕ
 lowered p = pick (eqb (versionOf p) 4) (lowered4 p) (pick (eqb (versionOf p) 6) (hop6 p) p)
 
--- what lowering a packet into an image asks: good form, a hop left, and room
+-- a packet, or the front of one, with all of its IPv4 header, or with the hop limit of IPv6: no length, no sum
+pub record Headed4 (p : List ℕ) : Type 0 where
+  pub long : 20 ≤ length p
+  pub four : versionOf p ≡ 4
+  pub ihl : 5 ≤ getD p 0 0 % 16
+  pub head : headerLength p ≤ length p
+
+pub record Headed6 (p : List ℕ) : Type 0 where
+  pub long : 8 ≤ length p
+  pub six : versionOf p ≡ 6
+
+pub record Headed (p : List ℕ) : Type 0 where
+  pub kind : Headed4 p ⊎ Headed6 p
+
+-- what lowering a packet, or the front of one, into an image asks: what lowering looks at, a hop left, and room
 pub record Lowerable (p image : List ℕ) : Type 0 where
-  pub good : Form p
+  pub good : Headed p
   pub hops : 1 ≤ hopsOf p
   pub room : length p ≤ length image

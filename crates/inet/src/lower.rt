@@ -3,13 +3,13 @@ ghost use mathlib.Core.Path.{_≡_};
 ghost use mathlib.Core.List.{_++_};
 ghost use Prim.Native.Nat.{_≤_};
 ghost use lib.ListN.{length, getD, drop};
-ghost use Rattle.inet.specs.Packet.{Form4, lowered4, hop6, lowered, Lowerable};
+ghost use Rattle.inet.specs.Packet.{Headed4, lowered4, hop6, lowered, Lowerable};
 use super::field::put_word;
 use super::packet::version;
 use super::sum::folded;
-use super::sum::sum_words;
+use super::sum::sum_quads;
 
-// Copies the packet to the front of image, and lowers it there. The form tells where its hop count and its header are.
+// Copies a packet, or the front of one that has its header, to the front of image, and lowers it there.
 pub fn lower_into(packet: &[u8], image: &mut [u8])
     requires { ⌜ Lowerable (now packet) (now image) ⌝ }
     ensures { λ _. ⌜ now (image .exit) ≡ lowered (now (packet .entry)) ++ drop (length (now (packet .entry))) (now (image .entry)) ⌝ }
@@ -25,7 +25,7 @@ pub fn lower_into(packet: &[u8], image: &mut [u8])
 
 // Lowers an IPv4 packet where it lies.
 fn lower4(p: &mut [u8])
-    requires { ⌜ Form4 (now p) ⌝ }
+    requires { ⌜ Headed4 (now p) ⌝ }
     requires { ⌜ 1 ≤ getD (now p) 8 0 ⌝ }
     ensures { λ _. ⌜ now (p .exit) ≡ lowered4 (now (p .entry)) ⌝ }
 {
@@ -33,7 +33,7 @@ fn lower4(p: &mut [u8])
     let hops = p[8];
     p[8] = hops - 1;
     put_word(p, 10, 0);
-    let sum = sum_words(&p[..n]);
+    let sum = sum_quads(&p[..n]);
     put_word(p, 10, 65535 - folded(sum));
 }
 

@@ -6,7 +6,7 @@ ghost use Rattle.inet.specs.Packet.{versionOf, form4, form6, form, Form,
 ghost use Rattle.inet.specs.Packet.{protocolOf, protocolByte, isIcmp, hopPlace, hopsOf};
 use super::Address;
 use super::sum::folded;
-use super::sum::sum_words;
+use super::sum::sum_quads;
 use super::sum::word;
 
 // Whether the bytes are a packet of good form.
@@ -43,7 +43,7 @@ fn ipv4_form(p: &[u8]) -> bool
     if word(p[2], p[3]) != p.len() as u64 {
         return false;
     }
-    if folded(sum_words(&p[..n])) != 65535 {
+    if folded(sum_quads(&p[..n])) != 65535 {
         return false;
     }
     true

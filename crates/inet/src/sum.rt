@@ -1,7 +1,7 @@
 // The Internet checksum of RFC 1071 over byte slices.
 ghost use mathlib.Core.Path.{_≡_};
-ghost use Prim.Native.Nat.{_≤_, _<_, _+_, _*_};
-ghost use lib.ListN.{length};
+ghost use Prim.Native.Nat.{_≤_, _<_, _+_, _*_, _/_, _%_};
+ghost use lib.ListN.{length, take};
 ghost use Rattle.inet.specs.Sum.{words, fold, SwappedWords};
 
 // The big-endian word of two bytes.
@@ -25,12 +25,19 @@ fn wide(byte: u8) -> u32
     byte as u32
 }
 
-// The first two words of s, each with its bytes swapped. This is one load of 32 bits, so that the loop of `sum_words` becomes one over vectors.
+// The first two words of s, each with its bytes swapped. This is one load of 32 bits, so that the loop of `sum_block` becomes one over vectors.
 fn swapped_words(s: &[u8]) -> u32
     requires { ⌜ 4 ≤ length (now s) ⌝ }
     ensures { λ r. ⌜ SwappedWords (now (s .entry)) r ⌝ }
 {
     wide(s[0]) + wide(s[1]) * 256 + wide(s[2]) * 65536 + wide(s[3]) * 16777216
+}
+
+// The lowest and the third byte, each where it stands: one AND with 0x00ff00ff.
+fn even_bytes(w: u32) -> u32
+    ensures { λ r. ⌜ r ≡ w % 256 + 65536 * (w / 65536 % 256) ⌝ }
+{
+    w & 16711935
 }
 
 // The sum of the words of at most three bytes; an odd last byte is a high half.
@@ -52,24 +59,54 @@ fn sum_pairs(s: &[u8]) -> u64
     acc as u64
 }
 
-// The sum of the words of s, which is no longer than an IPv4 packet.
-// Swapped words are added up, and apart from them their high halves, which are the low halves of the words: these set the sum right.
+// The sum of the words of s, which is no longer than an IPv4 packet: of blocks so short that the bytes of one place add up to less than 65536.
 pub fn sum_words(s: &[u8]) -> u64
     requires { ⌜ length (now s) ≤ 65535 ⌝ }
     ensures { λ r. ⌜ (r ≡ words (now (s .entry))) × (r < 4294967296) ⌝ }
 {
     let quads = s.len() / 4;
-    let mut swapped: u32 = 0;
+    let mut sum: u64 = 0;
+    let mut k: usize = 0;
+    while k + 256 < quads {
+        sum += sum_block(&s[4 * k..], 256);
+        k += 256;
+    }
+    sum += sum_block(&s[4 * k..], quads - k);
+    sum + sum_pairs(&s[4 * quads..])
+}
+
+// The sum of the words of the first 4 * quads bytes, at most 256 times 4: the bytes of two places are added up in one number, which is of 32 bits, so
+// that the loop becomes one over vectors.
+fn sum_block(s: &[u8], quads: usize) -> u64
+    requires { ⌜ (4 * quads ≤ length (now s)) × (quads ≤ 256) ⌝ }
+    ensures { λ r. ⌜ (r ≡ words (take (4 * quads) (now (s .entry)))) × (r ≤ 131070 * quads) ⌝ }
+{
+    let mut high: u32 = 0;
     let mut low: u32 = 0;
     let mut k = 0;
     while k < quads {
         let w = swapped_words(&s[4 * k..]);
-        swapped += w % 65536 + w / 65536;
-        low += w / 256 % 256 + w / 16777216;
+        high += even_bytes(w);
+        low += even_bytes(w / 256);
         k += 1;
     }
-    let acc = (swapped - low * 256) * 256 + low;
-    acc as u64 + sum_pairs(&s[4 * quads..])
+    let h = (high % 65536 + high / 65536) as u64;
+    let l = (low % 65536 + low / 65536) as u64;
+    h * 256 + l
+}
+
+// A number that folds to what the words of s fold to: two words are one number of 32 bits, since 65536 is 1 more than 65535. For short s, of quads alone.
+pub fn sum_quads(s: &[u8]) -> u64
+    requires { ⌜ (length (now s) ≤ 60) × (length (now s) % 4 ≡ 0) ⌝ }
+    ensures { λ r. ⌜ (fold r ≡ fold (words (now (s .entry)))) × (r < 1099511627776) ⌝ }
+{
+    let mut acc: u64 = 0;
+    let mut i: usize = 0;
+    while i < s.len() {
+        acc += octets::big_at(s, i, 4);
+        i += 4;
+    }
+    acc
 }
 
 // A sum folded to 16 bits.

@@ -1,11 +1,13 @@
 // The checksum of what an IP packet carries, from start to the packet's end.
 ghost use mathlib.Core.Path.{_≡_};
 ghost use Prim.Native.Nat.{_≤_, _<_};
+ghost use Rattle.inet.specs.Sum.{fold};
 ghost use Rattle.inet.specs.Packet.{Form};
 ghost use Rattle.inet.specs.Transport.{Within, addressWords, seed, finish};
 use super::packet::protocol_byte;
 use super::packet::version;
 use super::sum::folded;
+use super::sum::sum_quads;
 use super::sum::sum_words;
 
 // The folded sum of the pseudo-header. The form tells that both addresses are there.
@@ -20,14 +22,15 @@ pub fn seed(packet: &[u8], start: usize) -> u64
     folded(addresses + protocol as u64 + left as u64)
 }
 
+// A number that folds to what the words of both addresses fold to.
 fn address_words(packet: &[u8]) -> u64
     requires { ⌜ Form (now packet) ⌝ }
-    ensures { λ r. ⌜ (r ≡ addressWords (now (packet .entry))) × (r < 4294967296) ⌝ }
+    ensures { λ r. ⌜ (fold r ≡ fold (addressWords (now (packet .entry)))) × (r < 1099511627776) ⌝ }
 {
     if version(packet) == 4 {
-        return sum_words(&packet[12..20]);
+        return sum_quads(&packet[12..20]);
     }
-    sum_words(&packet[8..40])
+    sum_quads(&packet[8..40])
 }
 
 // The checksum of a packet that has the seed in its field: UDP sends a 0 as 65535. The packet may be of any form.

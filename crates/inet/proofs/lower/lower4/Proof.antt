@@ -15,8 +15,8 @@ long c = omega (arith, simp length-set at (c .put-word .kept .0))
 -- the four steps
 done : (c : tie.After-slice-known5) → c .before .before .put-word2 .last .0 ≡ lowered4 (c .before .before .before .before .before .before .before .before .before .before .before .before .before .before .args .p .now)
 done c =
-    lower4-steps _ _ _ _ _ (c .before .before .before .before .before .before .before .before .before .put-word .ensures) (c .before .before .before .before .before .sum-words .ensures .0)
-    (c .before .before .before .folded .ensures .0) (c .before .before .put-word2 .ensures)
+    lower4-steps _ _ _ _ (c .before .before .before .before .before .before .before .before .before .put-word .ensures)
+    (c .before .before .before .folded .ensures .0 ∙ c .before .before .before .before .before .sum-quads .ensures .0) (c .before .before .put-word2 .ensures)
 
 slice-read-n : tie.Need-slice-read-n
 slice-read-n c = search needs
@@ -39,14 +39,14 @@ slice-write-p c = search needs
 put-word-requires : tie.Need-put-word-requires
 put-word-requires c κs = simp length-set (omega arith)
 
-slice-reshare-prefix-sum-words : tie.Need-slice-reshare-prefix-sum-words
-slice-reshare-prefix-sum-words c = omega (arith, long (c .before .before))
+slice-reshare-prefix-sum-quads : tie.Need-slice-reshare-prefix-sum-quads
+slice-reshare-prefix-sum-quads c = omega (arith, long (c .before .before))
 
-slice-aggregate-sum-words : tie.Need-slice-aggregate-sum-words
-slice-aggregate-sum-words c = simp length-take (omega (arith, long (c .before .before .before)))
+slice-aggregate-sum-quads : tie.Need-slice-aggregate-sum-quads
+slice-aggregate-sum-quads c = simp length-take (omega (arith, long (c .before .before .before)))
 
-sum-words-requires : tie.Need-sum-words-requires
-sum-words-requires c κs = simp length-take (omega arith)
+sum-quads-requires : tie.Need-sum-quads-requires
+sum-quads-requires c κs = simp length-take (omega (arith, long (c .before .before .before)))
 
 folded-requires : tie.Need-folded-requires
 folded-requires c κs = search needs
@@ -74,9 +74,9 @@ lower4-spec =
     sub-p
     slice-write-p
     put-word-requires
-    slice-reshare-prefix-sum-words
-    slice-aggregate-sum-words
-    sum-words-requires
+    slice-reshare-prefix-sum-quads
+    slice-aggregate-sum-quads
+    sum-quads-requires
     folded-requires
     sub-put-word
     put-word-requires-2

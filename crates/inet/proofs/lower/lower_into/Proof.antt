@@ -1,7 +1,7 @@
 -- The copy's front is the packet, so the callees' `requires` are facts of the packet, and what they leave there is `lowered`. Assumes nothing.
 use lib.ListN.{length-take}
 use native.Mathlib.Omega.{arith}
-use Rattle.inet.proofs.FormFacts.{is-form6}
+use Rattle.inet.proofs.FormFacts.{is-headed6}
 use Rattle.inet.proofs.LoweredLaws.{front-4, front-6, lower-steps-4, lower-steps-6}
 use borrow.Author.Needs.{needs}
 use Rattle.inet.proofs.lower.lower_into.Statement.{statement}
@@ -49,7 +49,7 @@ same-length-2 c = search needs
 returns-2 : tie.Need-returns-2
 returns-2 c =
     let s = c .before .before .before .before .before .before .before .before .before .before .before .before in
-    let f = is-form6 _ (s .pre .good) (λ e. omega arith) in
+    let f = is-headed6 _ (s .pre .good) (λ e. omega arith) in
     lower-steps-6 (s .args .packet .now) _ _ (c .before .before .before .before .before .before .before .before .copy .ensures .1) _ (f .six) (c .before .before .lower6 .ensures)
 
 pub lower-into-spec : {M : Type 1} → statement M

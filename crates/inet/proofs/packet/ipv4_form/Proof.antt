@@ -1,9 +1,8 @@
 -- A test that fails refutes the facts of `Form4`; all that pass prove them. Assumes nothing.
-use mathlib.Core.Path.{sym, ap, _∙_}
+use mathlib.Core.Path.{sym, _∙_}
 use native.Mathlib.Omega.{arith}
 use lib.ListN.{length-take}
 use Rattle.inet.proofs.FormFacts.{form4-fails, facts-form4}
-use Rattle.inet.specs.Sum.{fold}
 use borrow.Author.Needs.{needs}
 use Rattle.inet.proofs.packet.ipv4_form.Statement.{statement}
 use Rattle.inet.proofs.packet.ipv4_form.Tie as tie
@@ -44,23 +43,23 @@ word-requires c κs = search needs
 returns-5 : tie.Need-returns-5
 returns-5 c = sym (form4-fails _ (λ f. omega arith))
 
-slice-aggregate-sum-words : tie.Need-slice-aggregate-sum-words
-slice-aggregate-sum-words c = simp length-take (omega arith)
+slice-aggregate-sum-quads : tie.Need-slice-aggregate-sum-quads
+slice-aggregate-sum-quads c = simp length-take (omega arith)
 
-sum-words-requires : tie.Need-sum-words-requires
-sum-words-requires c κs = simp length-take (omega arith)
+sum-quads-requires : tie.Need-sum-quads-requires
+sum-quads-requires c κs = simp length-take (omega arith)
 
 folded-requires : tie.Need-folded-requires
 folded-requires c κs = search needs
 
 returns-6 : tie.Need-returns-6
 returns-6 c =
-    let e = c .before .folded .ensures .0 ∙ ap fold (c .before .before .sum-words .ensures .0) in
+    let e = c .before .folded .ensures .0 ∙ c .before .before .sum-quads .ensures .0 in
     sym (form4-fails _ (λ f. omega (arith, e)))
 
 returns-7 : tie.Need-returns-7
 returns-7 c =
-    let e = c .before .folded .ensures .0 ∙ ap fold (c .before .before .sum-words .ensures .0) in
+    let e = c .before .folded .ensures .0 ∙ c .before .before .sum-quads .ensures .0 in
     sym (facts-form4 _ (omega (arith, e)))
 
 pub ipv4-form-spec : {M : Type 1} → statement M
@@ -79,8 +78,8 @@ ipv4-form-spec =
     shared-slice-read-word-2
     word-requires
     returns-5
-    slice-aggregate-sum-words
-    sum-words-requires
+    slice-aggregate-sum-quads
+    sum-quads-requires
     folded-requires
     returns-6
     returns-7)

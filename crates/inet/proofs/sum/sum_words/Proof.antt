@@ -1,81 +1,54 @@
--- The swapped words so far, the halves that set them right, and the words still to come make the words of all. Assumes nothing.
-use Prim.Native.Nat.{ℕ, _≤_, _*_, _/_, _%_, _-_, _+_, _<_}
-use mathlib.Core.Path.{_≡_, ap, _∙_}
+-- The sum so far and the words still to come make the words of all; a block is an even front of these (`words-cut`). Assumes nothing.
+use Prim.Native.Nat.{ℕ, _≤_, _*_, _/_, _-_, _+_}
+use mathlib.Core.Path.{_≡_, refl, ap, _∙_}
 use mathlib.Core.List.{List}
 use native.Mathlib.Omega.{arith}
-use lib.ListN.{length, take, drop, getD}
-use lib.Seq.{getD-drop}
+use lib.ListN.{length, take, drop}
+use lib.Seq.{drop-drop}
 use Rattle.octets.proofs.Parts.{tail}
-use Rattle.inet.specs.Sum.{words, SwappedWords}
-use Rattle.inet.proofs.WordLaws.{words-step}
+use Rattle.inet.specs.Sum.{words}
+use Rattle.inet.proofs.WordLaws.{words-cut}
 use borrow.Author.Needs.{needs}
 use Rattle.inet.proofs.sum.sum_words.Statement.{statement}
 use Rattle.inet.proofs.sum.sum_words.Tie as tie
 
-next-quad : (k : ℕ) → 4 * (k + 1) ≡ 4 * k + 4
-next-quad k = omega arith
-
--- a byte of `&s[i..]`
-part-at : (s : List ℕ) (i j : ℕ) → getD (take (length s - i) (drop i s)) j 0 ≡ getD s (i + j) 0
-part-at s i j = ap (λ (l : List ℕ). getD l j 0) (tail i s) ∙ getD-drop i s j 0
-
--- two swapped words, set right by their high halves, are the words
-swapped-step : (s : List ℕ) (i w : ℕ) → i + 3 < length s → SwappedWords (take (length s - i) (drop i s)) w
-    → (w % 65536 + w / 65536) * 256 + words (drop (i + 4) s) ≡ words (drop i s) + (w / 256 % 256 + w / 16777216) * 65535
-swapped-step s i w h v =
-    let z : i + 0 ≡ i = omega arith in
-    let two : i + 2 + 1 ≡ i + 3 = omega arith in
-    let four : i + 2 + 2 ≡ i + 4 = omega arith in
-    let b0 : getD (take (length s - i) (drop i s)) 0 0 ≡ getD s i 0 = part-at s i 0 ∙ ap (λ (n : ℕ). getD s n 0) z in
-    let a : words (drop i s) ≡ getD s i 0 * 256 + getD s (i + 1) 0 + words (drop (i + 2) s) = words-step s i (omega arith) in
-    let b : words (drop (i + 2) s) ≡ getD s (i + 2) 0 * 256 + getD s (i + 2 + 1) 0 + words (drop (i + 2 + 2) s) = words-step s (i + 2) (omega arith) in
-    let c : getD s (i + 2 + 1) 0 ≡ getD s (i + 3) 0 = ap (λ (n : ℕ). getD s n 0) two in
-    let d : words (drop (i + 2 + 2) s) ≡ words (drop (i + 4) s) = ap (λ (n : ℕ). words (drop n s)) four in
-    omega (arith, v .first, v .second, v .first-low, v .second-low, part-at s i 1, part-at s i 2, part-at s i 3)
-
--- what is left of swapped words without their high halves is two bytes
-swapped-bound : (w : ℕ) → w % 65536 + w / 65536 ≤ (w / 256 % 256 + w / 16777216) * 256 + 510
-swapped-bound w =
-    let a : w % 65536 ≤ w / 256 % 256 * 256 + 255 = omega arith in
-    let b : w / 65536 ≤ w / 16777216 * 256 + 255 = omega arith in
-    omega arith
+-- n quads of `&s[4 * k..]`
+next-block : (s : List ℕ) (k n m r : ℕ) → m ≡ k + n → r ≡ words (take (4 * n) (take (length s - 4 * k) (drop (4 * k) s))) → words (drop (4 * k) s) ≡ r + words (drop (4 * m) s)
+next-block s k n m r e f =
+    let i : 4 * k + 4 * n ≡ 4 * m = omega arith in
+    let a : r ≡ words (take (4 * n) (drop (4 * k) s)) = f ∙ ap (λ (l : List ℕ). words (take (4 * n) l)) (tail (4 * k) s) in
+    let b : words (drop (4 * n) (drop (4 * k) s)) ≡ words (drop (4 * m) s) = ap words (drop-drop (4 * n) (4 * k) s) ∙ ap (λ (j : ℕ). words (drop j s)) i in
+    omega (arith, words-cut (4 * n) (drop (4 * k) s) (omega arith))
 
 abbrev Inv-loop : tie.InvT-loop
-Inv-loop s quads swapped₀ low₀ k₀ swapped low k =
-    (k ≤ quads) × (low ≤ 510 * k) × (low * 256 ≤ swapped) × (swapped ≤ low * 256 + 510 * k) × (swapped * 256 + words (drop (4 * k) s) ≡ words s + low * 65535)
+Inv-loop s quads sum₀ k₀ sum k = (k ≤ quads) × (sum ≤ 131070 * k) × (sum + words (drop (4 * k) s) ≡ words s)
 
 abbrev μ-loop : tie.MeasureT-loop
-μ-loop s quads swapped₀ low₀ k₀ swapped low k = quads - k
+μ-loop s quads sum₀ k₀ sum k = quads - k
 
 loop-holds : tie.Need-loop-holds Inv-loop μ-loop
 loop-holds c = search needs
 
-mul-swapped-words : tie.Need-mul-swapped-words Inv-loop μ-loop
-mul-swapped-words c = search needs
+add-loop : tie.Need-add-loop Inv-loop μ-loop
+add-loop c = search needs
 
-sub-swapped-words : tie.Need-sub-swapped-words Inv-loop μ-loop
-sub-swapped-words c = search needs
+mul-sum-block : tie.Need-mul-sum-block Inv-loop μ-loop
+mul-sum-block c = search needs
 
-part-swapped-words-start : tie.Need-part-swapped-words-start Inv-loop μ-loop
-part-swapped-words-start c = search needs
+sub-sum-block : tie.Need-sub-sum-block Inv-loop μ-loop
+sub-sum-block c = search needs
 
-part-swapped-words-end : tie.Need-part-swapped-words-end Inv-loop μ-loop
-part-swapped-words-end c = search needs
+part-sum-block-start : tie.Need-part-sum-block-start Inv-loop μ-loop
+part-sum-block-start c = search needs
 
-swapped-words-requires : tie.Need-swapped-words-requires Inv-loop μ-loop
-swapped-words-requires c κs = search needs
+part-sum-block-end : tie.Need-part-sum-block-end Inv-loop μ-loop
+part-sum-block-end c = search needs
 
-add-swapped : tie.Need-add-swapped Inv-loop μ-loop
-add-swapped c = search needs
+sum-block-requires : tie.Need-sum-block-requires Inv-loop μ-loop
+sum-block-requires c κs = search needs
 
-add-swapped-2 : tie.Need-add-swapped-2 Inv-loop μ-loop
-add-swapped-2 c = search needs
-
-add-low : tie.Need-add-low Inv-loop μ-loop
-add-low c = search needs
-
-add-low-2 : tie.Need-add-low-2 Inv-loop μ-loop
-add-low-2 c = search needs
+add-sum : tie.Need-add-sum Inv-loop μ-loop
+add-sum c = search needs
 
 add-k : tie.Need-add-k Inv-loop μ-loop
 add-k c = search needs
@@ -87,23 +60,28 @@ loop-again : tie.Need-loop-again Inv-loop μ-loop
 loop-again c =
     let l = c .before .before .before .loop in
     let s = c .before .before .before .before .before .args .s .now in
-    let e = c .swapped-words .ensures in
-    omega (arith, swapped-step s (4 * l .k) _ (omega arith) e, e .first, e .second, e .first-low, e .second-low, swapped-bound (c .swapped-words .result), ap (λ n. words (drop n s)) (next-quad (l .k)))
+    omega (arith, next-block s (l .k) 256 (l .k + 256) _ refl (c .sum-block .ensures .0))
 
-mul-acc : tie.Need-mul-acc Inv-loop μ-loop
-mul-acc c = search needs
+mul-sum-block-2 : tie.Need-mul-sum-block-2 Inv-loop μ-loop
+mul-sum-block-2 c = search needs
 
-sub-acc : tie.Need-sub-acc Inv-loop μ-loop
-sub-acc c = search needs
+sub-sum-block-2 : tie.Need-sub-sum-block-2 Inv-loop μ-loop
+sub-sum-block-2 c = search needs
 
-mul-acc-2 : tie.Need-mul-acc-2 Inv-loop μ-loop
-mul-acc-2 c = search needs
+part-sum-block-start-2 : tie.Need-part-sum-block-start-2 Inv-loop μ-loop
+part-sum-block-start-2 c = search needs
 
-add-acc : tie.Need-add-acc Inv-loop μ-loop
-add-acc c = search needs
+part-sum-block-end-2 : tie.Need-part-sum-block-end-2 Inv-loop μ-loop
+part-sum-block-end-2 c = search needs
 
-cast-result : tie.Need-cast-result Inv-loop μ-loop
-cast-result c = search needs
+sub-sum-block-3 : tie.Need-sub-sum-block-3 Inv-loop μ-loop
+sub-sum-block-3 c = search needs
+
+sum-block-requires-2 : tie.Need-sum-block-requires-2 Inv-loop μ-loop
+sum-block-requires-2 c κs = search needs
+
+add-sum-2 : tie.Need-add-sum-2 Inv-loop μ-loop
+add-sum-2 c = search needs
 
 mul-sum-pairs : tie.Need-mul-sum-pairs Inv-loop μ-loop
 mul-sum-pairs c = search needs
@@ -125,10 +103,10 @@ add-result c = search needs
 
 returns : tie.Need-returns Inv-loop μ-loop
 returns c =
-    let l = c .before .before .before .loop in
-    let s = c .before .before .before .before .before .args .s .now in
-    let e : l .k ≡ length s / 4 = omega arith in
-    omega (arith, ap words (tail (4 * (length s / 4)) s), ap (λ n. words (drop (4 * n) s)) e)
+    let l = c .before .before .before .before .before .loop in
+    let s = c .before .before .before .before .before .before .before .args .s .now in
+    let q = length s / 4 in
+    omega (arith, next-block s (l .k) (q - l .k) q _ (omega arith) (c .before .before .sum-block2 .ensures .0), ap words (tail (4 * q) s))
 
 pub sum-words-spec : {M : Type 1} → statement M
 sum-words-spec =
@@ -137,23 +115,23 @@ sum-words-spec =
     Inv-loop
     μ-loop
     loop-holds
-    mul-swapped-words
-    sub-swapped-words
-    part-swapped-words-start
-    part-swapped-words-end
-    swapped-words-requires
-    add-swapped
-    add-swapped-2
-    add-low
-    add-low-2
+    add-loop
+    mul-sum-block
+    sub-sum-block
+    part-sum-block-start
+    part-sum-block-end
+    sum-block-requires
+    add-sum
     add-k
     loop-less
     loop-again
-    mul-acc
-    sub-acc
-    mul-acc-2
-    add-acc
-    cast-result
+    mul-sum-block-2
+    sub-sum-block-2
+    part-sum-block-start-2
+    part-sum-block-end-2
+    sub-sum-block-3
+    sum-block-requires-2
+    add-sum-2
     mul-sum-pairs
     sub-sum-pairs
     part-sum-pairs-start

@@ -1,8 +1,6 @@
 -- The three parts of the pseudo-header, folded. Assumes nothing.
-use mathlib.Core.Path.{ap, _∙_}
-use native.Mathlib.Omega.{arith}
-use Rattle.inet.specs.Sum.{fold}
-use Rattle.inet.specs.Transport.{seed}
+use mathlib.Core.Path.{refl, _∙_}
+use Rattle.inet.proofs.TransportLaws.{seed-steps}
 use borrow.Author.Needs.{needs}
 use Rattle.inet.proofs.transport.seed.Statement.{statement}
 use Rattle.inet.proofs.transport.seed.Tie as tie
@@ -29,8 +27,9 @@ folded-requires : tie.Need-folded-requires
 folded-requires c κs = search needs
 
 returns : tie.Need-returns
-unfolding seed
-returns c = (c .folded .ensures .0 ∙ ap fold (omega arith), search needs)
+returns c =
+    let a = c .before .before .before .before .args in
+    (c .folded .ensures .0 ∙ seed-steps (a .start) (a .packet .now) _ _ _ (c .before .before .address-words .ensures .0) (c .before .protocol-byte .ensures) refl, search needs)
 
 pub seed-spec : {M : Type 1} → statement M
 seed-spec =
