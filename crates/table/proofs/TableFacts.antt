@@ -5,9 +5,9 @@ use mathlib.Core.Bool.{Bool, true, not, _&&_}
 use mathlib.Core.List.{List, [], _∷_, map}
 use mathlib.Core.Logic.{⊎-elim}
 use native.Mathlib.Omega.{arith}
-use borrow.Author.Tests.{ltb-false, not-false}
-use lib.Dec.{ltb}
-use lib.ListN.{length}
+use borrow.Author.Tests.{ltb-false, not-false, ne-eqb, lt-ltb}
+use lib.Dec.{eqb, ltb}
+use lib.ListN.{length, getD}
 use Rattle.answer.specs.declared.Refusal.{Refusal}
 use Rattle.answer.specs.declared.Refusal.the-variants.{PlanRule, PlanContext}
 use Rattle.answer.specs.declared.Verdict.{Verdict}
@@ -19,10 +19,11 @@ use Rattle.octets.specs.Scan.{from}
 use Rattle.table.specs.declared.Segment.{Segment}
 use Rattle.table.specs.Limits.{maxTemplates, maxSegments, staticLimit}
 use Rattle.table.specs.Templates.{Piece, segmentOf, Sum, noSum, sumAt, Template, segmentsOf}
-use Rattle.table.specs.Words.{segmentAt, headOf, templateOf, countIn, wordsAt, templatesOf}
+use Rattle.table.specs.Words.{segmentAt, fieldUnder, headOf, sumOf, templateOf, countIn, wordsAt, templatesOf}
 use Rattle.table.specs.Rules.{idRule, segmentRule, clearOf, sumRule, segmentsFault, allClear, sumFault, templateFault, templatesFault, planFault, goes, soundTemplates}
-use Rattle.table.specs.Sound.{Ascends, ClearOf, SoundSum, SoundTemplate, SoundTemplates, UsableTemplate, Usable}
+use Rattle.table.specs.Sound.{Ascends, ClearOf, SumFacts, SoundSum, SoundTemplate, SoundTemplates, UsableTemplate, Usable}
 use Rattle.table.proofs.RuleCases.{id-facts, segment-facts, clear-facts, sum-facts}
+use Rattle.table.proofs.Views.{field-good}
 use Rattle.table.proofs.Judging.{segments-of, length-pieces, length-templates, templates-by}
 
 -- where a test that is to hold is not refused, it holds
@@ -164,3 +165,25 @@ table-usable w sound =
       few = omega (arith, sound-few (templatesOf w) sound, length-templates w);
       all = λ i h. usable-at (wordsAt w) 0 (countIn w) 0 g i (omega arith) (omega arith);
     }
+
+-- a table of no templates is sound
+pub none-sound : (w : List ℕ) → countIn w ≡ 0 → true ≡ soundTemplates (templatesOf w)
+unfolding soundTemplates planFault templatesOf
+none-sound w e = rw e
+
+-- ---- the flag of a checksum
+
+-- under a flag above 1 the field is 0, which lies before every start
+flag-over : (flag field start : ℕ) (ps : List Piece) → 1 < flag → SoundSum (sumOf (not (eqb flag 0)) (fieldUnder flag field) start) ps
+    → field ≡ fieldUnder flag field
+flag-over flag field start ps h s =
+    let f : SumFacts 0 start ps = rw (ne-eqb flag 0 (λ e. omega arith), lt-ltb 1 flag h) at s in
+    absurd (omega (arith, f .low, f .order))
+
+-- so the field of words that may be used is the one that stands there
+pub usable-field : (t : List ℕ) → UsableTemplate t → getD t 3 0 ≡ headOf t .field
+unfolding headOf templateOf
+usable-field t u =
+    ⊎-elim (λ h. flag-over (getD t 2 0) (getD t 3 0) (getD t 4 0) (templateOf t .pieces) h (u .sound .summed))
+    (λ h. field-good (getD t 2 0) (getD t 3 0) h)
+    (order 1 (getD t 2 0))

@@ -80,6 +80,26 @@ pub fn head_of(t: &[u64]) -> Head
     }
 }
 
+// The head of a template that was judged: its flag needs no second test.
+pub fn judged_head(t: &[u64]) -> Head
+    requires { ⌜ templateWords ≤ length (now t) ⌝ }
+    requires { ⌜ UsableTemplate (now t) ⌝ }
+    ensures { λ r. ⌜ r ≡ headOf (now (t .entry)) ⌝ }
+{
+    let id = ContextId(t[0]);
+    let count = t[1] as usize;
+    let checksum = t[2] != 0;
+    let field = t[3] as usize;
+    let start = t[4] as usize;
+    Head {
+        id,
+        count,
+        checksum,
+        field,
+        start,
+    }
+}
+
 // A flag is 0 or 1: under any other the field is 0, which breaks the rule of a checksum.
 fn field_under(flag: u64, field: usize) -> usize
     ensures { λ r. ⌜ r ≡ fieldUnder flag field ⌝ }
@@ -108,7 +128,7 @@ pub fn static_size(t: &[u64]) -> usize
     requires { ⌜ UsableTemplate (now t) ⌝ }
     ensures { λ r. ⌜ (r ≡ staticSize (templateOf (now (t .entry)) .pieces)) × (r ≤ staticLimit) ⌝ }
 {
-    let n = head_of(t).count;
+    let n = judged_head(t).count;
     let mut size: usize = 0;
     let mut j: usize = 0;
     while j < n {

@@ -12,16 +12,16 @@ Inv-loop t n size₀ j₀ size j = Adding t n size j
 abbrev μ-loop : tie.MeasureT-loop
 μ-loop t n size₀ j₀ size j = n - j
 
-head-of-requires : tie.Need-head-of-requires Inv-loop μ-loop
-head-of-requires c κs = search needs
+judged-head-requires : tie.Need-judged-head-requires Inv-loop μ-loop
+judged-head-requires c κs = search needs
 
 loop-holds : tie.Need-loop-holds Inv-loop μ-loop
-loop-holds c = adding-none (c .before .before .args .t .now) (c .head-of .ensures)
+loop-holds c = adding-none (c .before .before .args .t .now) (c .judged-head .ensures)
 
 segment-at-requires : tie.Need-segment-at-requires Inv-loop μ-loop
 segment-at-requires c κs =
     let s = c .before .before .before .before in
-    (s .pre .0, omega (arith, c .loop-test .taken, few-segments (s .args .t .now) (c .before .before .head-of .ensures) (s .pre .1)))
+    (s .pre .0, omega (arith, c .loop-test .taken, few-segments (s .args .t .now) (c .before .before .judged-head .ensures) (s .pre .1)))
 
 add-size : tie.Need-add-size Inv-loop μ-loop
 add-size c = omega (arith, adding-fits (c .before .before .before .loop .inv) (c .before .before .loop-test .taken) (c .before .segment-at .ensures) (c .before .before .before .before .before .before .pre .1))
@@ -44,7 +44,7 @@ static-size-spec =
     (tie.spec
     Inv-loop
     μ-loop
-    head-of-requires
+    judged-head-requires
     loop-holds
     segment-at-requires
     add-size
