@@ -4,22 +4,22 @@ use mathlib.Core.Bool.{Bool, true, false, _&&_}
 use mathlib.Core.Path.{_≡_, refl, sym, ap, _∙_}
 use mathlib.Core.List.{List, [], _∷_, _++_}
 use native.Mathlib.Omega.{arith}
-use lib.ListN.{length, drop, set, length-append}
+use lib.ListN.{length, drop, set, replicate, length-append}
 use Rattle.answer.specs.declared.Refusal.the-variants.{BadAddress, BadRequestId, TooMany}
 use Rattle.answer.specs.declared.Verdict.the-variants.{Go}
 use Rattle.lists.specs.declared.AddressEntry.{AddressEntry}
 use Rattle.lists.specs.Rules.{idOf}
-use Rattle.lists.specs.Words.{maxAddresses, entryWords, putEntry, packEntries}
+use Rattle.lists.specs.Words.{maxAddresses, addressWords, entryWords, putEntry, packEntries}
 use Rattle.lists.proofs.Packing as Packing
 use Rattle.capsule.specs.declared.element.EntryRead.the-variants.{Good, Bad}
-use Rattle.capsule.specs.declared.list.EntriesRead.{EntriesRead}
 use Rattle.capsule.specs.Elements.{Parsed, fault, elementsIn}
 use Rattle.capsule.specs.Entries.{readEntry, entryElement, entryFollows, entryFormat}
 use Rattle.capsule.specs.RequestIds.{idsIn, idsRefused}
-use Rattle.capsule.specs.Results.{entriesResult}
+use Rattle.capsule.specs.Results.{ReadsEntries}
 use Rattle.capsule.proofs.EntryCases as Entry
 use Rattle.capsule.proofs.IdLaws.{elements-entries}
 use Rattle.capsule.proofs.IdsTurn as Ids
+use Rattle.capsule.proofs.ListCases.{reads-all}
 use Rattle.capsule.proofs.Turn as T
 
 -- the loop's invariant
@@ -33,8 +33,8 @@ pub record Reading (request : Bool) (s words : List ℕ) (count at : ℕ) : Type
   pub numbered : length ids ≡ count
   pub stored : words ≡ 0 ∷ entryWords maxAddresses es
 
-pub start : (request : Bool) (s : List ℕ) → Reading request s (0 ∷ entryWords maxAddresses []) 0 0
-start request s =
+pub start : (request : Bool) (s : List ℕ) {words : List ℕ} → words ≡ replicate addressWords 0 → Reading request s words 0 0
+start request s e =
     record {
       es = [];
       earlier = [];
@@ -43,18 +43,18 @@ start request s =
       judging = Ids.start s;
       counted = refl;
       numbered = refl;
-      stored = refl;
+      stored = e;
     }
 
 -- ---- the IDs are judged
 
 module _ (request : Bool) (s : List ℕ) (b : Bool) (j : b ≡ (request && idsRefused (idsIn s))) where
-  pub refused : b ≡ true → entriesResult (fault BadRequestId) ≡ entriesResult (elementsIn (entryFormat request) request maxAddresses s)
+  pub refused : b ≡ true → fault BadRequestId ≡ elementsIn (entryFormat request) request maxAddresses s
   refused e = rw (elements-entries request maxAddresses s, ← j, e)
 
   -- then all else is as in an assignment
   pub passed : b ≡ false → {p : Parsed AddressEntry} → p ≡ elementsIn (entryFormat false) request maxAddresses s
-      → entriesResult p ≡ entriesResult (elementsIn (entryFormat request) request maxAddresses s)
+      → p ≡ elementsIn (entryFormat request) request maxAddresses s
   passed e q = rw (elements-entries request maxAddresses s, ← j, e, q)
 
 -- ---- a turn
@@ -106,8 +106,7 @@ module _ {request : Bool} {s words : List ℕ} {count at : ℕ} (i : Reading req
     many h = T.many (i .reading) g (omega (arith, i .counted))
 
     pub fine : (b : Bool) → b ≡ (request && idsRefused (idsIn s)) → b ≡ false → count ≤ maxAddresses → (count ≡ 0 → request ≡ false)
-        → _≡_ {A = EntriesRead} (record { verdict = Go; list = record { words = set words 0 count } }) (entriesResult (elementsIn (entryFormat request) request maxAddresses s))
+        → ReadsEntries (elementsIn (entryFormat request) request maxAddresses s) Go (set words 0 count)
     unfolding packEntries
     fine b j p h z =
-        rw (i .stored, i .counted)
-        (passed request s b j p (T.fine (i .reading) g (omega (arith, i .counted)) (λ e. z (i .counted ∙ e))))
+        reads-all (passed request s b j p (T.fine (i .reading) g (omega (arith, i .counted)) (λ e. z (i .counted ∙ e)))) (rw (i .stored, i .counted))

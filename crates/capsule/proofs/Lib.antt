@@ -2,6 +2,7 @@ pub mod Picks
 pub mod EntryCases
 pub mod RangeCases
 pub mod Turn
+pub mod ListCases
 pub mod FrameCases
 pub mod HeadLaws
 pub mod RangesTurn

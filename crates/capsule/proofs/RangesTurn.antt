@@ -4,19 +4,19 @@ use mathlib.Core.Bool.{true, false}
 use mathlib.Core.Path.{_≡_, refl, sym, ap, _∙_}
 use mathlib.Core.List.{List, [], _∷_, _++_}
 use native.Mathlib.Omega.{arith}
-use lib.ListN.{length, drop, set, length-append}
+use lib.ListN.{length, drop, set, replicate, length-append}
 use Rattle.answer.specs.declared.Refusal.the-variants.{BadRange, RangesOutOfOrder, TooMany}
 use Rattle.answer.specs.declared.Verdict.the-variants.{Go, Stop}
 use Rattle.lists.specs.declared.RouteRange.{RouteRange}
 use Rattle.lists.specs.Rules.{inOrder, beforeAll}
-use Rattle.lists.specs.Words.{maxRanges, rangeWords, putRange, packRanges}
+use Rattle.lists.specs.Words.{maxRanges, routeWords, rangeWords, putRange, packRanges}
 use Rattle.lists.proofs.Packing as Packing
 use Rattle.capsule.specs.declared.element.RangeRead.the-variants.{Good, Bad}
-use Rattle.capsule.specs.declared.list.RangesRead.{RangesRead}
 use Rattle.capsule.specs.Elements.{fault, elementsIn}
 use Rattle.capsule.specs.Entries.{readRange, rangeElement, newest, rangeFollows, rangeFormat}
-use Rattle.capsule.specs.Results.{rangesResult}
+use Rattle.capsule.specs.Results.{ReadsRanges}
 use Rattle.capsule.proofs.RangeCases as Range
+use Rattle.capsule.proofs.ListCases.{reads-all}
 use Rattle.capsule.proofs.Turn as T
 
 pub follows : (earlier : List RouteRange) (r : RouteRange) → inOrder (newest earlier) r ≡ true → rangeFollows earlier r ≡ Go
@@ -36,14 +36,11 @@ pub record Reading (s words : List ℕ) (last : RouteRange) (count at : ℕ) : T
   pub stored : words ≡ 0 ∷ rangeWords maxRanges rs
   pub ends : last ≡ newest earlier
 
-pub start : (s : List ℕ) (last : RouteRange) → last ≡ beforeAll → Reading s (0 ∷ rangeWords maxRanges []) last 0 0
-start s last e =
-    record { rs = []; earlier = []; reading = T.start rangeFormat false maxRanges s; counted = refl; stored = refl; ends = e }
+pub start : (s : List ℕ) (last : RouteRange) {words : List ℕ} → words ≡ replicate routeWords 0 → last ≡ beforeAll → Reading s words last 0 0
+start s last f e =
+    record { rs = []; earlier = []; reading = T.start rangeFormat false maxRanges s; counted = refl; stored = f; ends = e }
 
 module _ {s words : List ℕ} {last : RouteRange} {count at : ℕ} (i : Reading s words last count at) where
-  answer : {p : _} → p ≡ elementsIn rangeFormat false maxRanges s → rangesResult p ≡ rangesResult (elementsIn rangeFormat false maxRanges s)
-  answer e = ap rangesResult e
-
   module _ (g : at < length s) where
     module _ (r : RouteRange) (n : ℕ) (q : readRange (drop at s) ≡ Good r n) where
       -- whatever the words are, so long as they hold the ranges
@@ -71,19 +68,18 @@ module _ {s words : List ℕ} {last : RouteRange} {count at : ℕ} (i : Reading 
           (i .stored ∙ ap (λ (l : List ℕ). 0 ∷ l) (sym (Packing.range-words-full maxRanges (i .rs) (r ∷ []) (omega (arith, i .counted)))))
           o
 
-      pub fault-order : inOrder last r ≡ false → rangesResult (fault RangesOutOfOrder) ≡ rangesResult (elementsIn rangeFormat false maxRanges s)
-      fault-order o = answer (T.fault-rule (i .reading) g r n (ap rangeElement q) RangesOutOfOrder (unordered (i .earlier) r (rw (i .ends) at o)))
+      pub fault-order : inOrder last r ≡ false → fault RangesOutOfOrder ≡ elementsIn rangeFormat false maxRanges s
+      fault-order o = T.fault-rule (i .reading) g r n (ap rangeElement q) RangesOutOfOrder (unordered (i .earlier) r (rw (i .ends) at o))
 
-    pub fault-range : readRange (drop at s) ≡ Bad → rangesResult (fault BadRange) ≡ rangesResult (elementsIn rangeFormat false maxRanges s)
-    fault-range q = answer (T.fault-layout (i .reading) g (ap rangeElement q))
+    pub fault-range : readRange (drop at s) ≡ Bad → fault BadRange ≡ elementsIn rangeFormat false maxRanges s
+    fault-range q = T.fault-layout (i .reading) g (ap rangeElement q)
 
   module _ (g : length s ≤ at) where
-    pub many : maxRanges < count → rangesResult (fault TooMany) ≡ rangesResult (elementsIn rangeFormat false maxRanges s)
-    many h = answer (T.many (i .reading) g (omega (arith, i .counted)))
+    pub many : maxRanges < count → fault TooMany ≡ elementsIn rangeFormat false maxRanges s
+    many h = T.many (i .reading) g (omega (arith, i .counted))
 
     pub fine : count ≤ maxRanges
-        → _≡_ {A = RangesRead} (record { verdict = Go; list = record { words = set words 0 count } }) (rangesResult (elementsIn rangeFormat false maxRanges s))
+        → ReadsRanges (elementsIn rangeFormat false maxRanges s) Go (set words 0 count)
     unfolding packRanges
     fine h =
-        rw (i .stored, i .counted)
-        (answer (T.fine (i .reading) g (omega (arith, i .counted)) (λ e. refl)))
+        reads-all (T.fine (i .reading) g (omega (arith, i .counted)) (λ e. refl)) (rw (i .stored, i .counted))

@@ -16,24 +16,20 @@ use Rattle.answer.specs.declared.Verdict.the-variants.{Go, Stop}
 use Rattle.answer.proofs.Tests.{order}
 use Rattle.varint.specs.Numbers.{readNumber}
 use Rattle.varint.proofs.Reading as Number
-use Rattle.lists.specs.declared.AddressEntry.{AddressEntry}
-use Rattle.lists.specs.declared.RouteRange.{RouteRange}
 use Rattle.lists.specs.Words.{maxAddresses, maxRanges}
 use Rattle.capsule.specs.declared.CapsuleRead.{CapsuleRead}
 use Rattle.capsule.specs.declared.FrameRead.{FrameRead}
 use Rattle.capsule.specs.declared.FrameRead.the-variants.{Value}
 use Rattle.capsule.specs.declared.FrameRead.the-variants as Frame
-use Rattle.capsule.specs.declared.list.EntriesRead.{EntriesRead}
-use Rattle.capsule.specs.declared.list.RangesRead.{RangesRead}
 use Rattle.capsule.specs.Elements.{Parsed, fault, all, parsedVerdict, elementsIn}
 use Rattle.capsule.specs.Entries.{entryFormat, rangeFormat}
 use Rattle.capsule.specs.Capsules.{maxValue, Capsule, kindOf, assign, request, advertise, entriesIn, rangesIn, listed, refused, readValue, inFrame, frameOf, readCapsule}
-use Rattle.capsule.specs.Results.{judgedAt, otherKind, refusedAt, foundAt, entriesResult, rangesResult, resultAt, readAt, frameResult, frameIn, valueVerdict}
+use Rattle.capsule.specs.Results.{judgedAt, otherKind, refusedAt, foundAt, resultAt, readAt, frameResult, frameIn, valueVerdict, ReadsEntries, ReadsRanges}
 use Rattle.capsule.proofs.FrameCases.{Framed, frame-facts, framed-frame}
 
 -- ---- a list, by the length of its value
 module _ (asked : Bool) (v : List ℕ) where
-  pub entries-long : maxValue < length v → entriesResult (fault TooLong) ≡ entriesResult (entriesIn asked v)
+  pub entries-long : maxValue < length v → fault TooLong ≡ entriesIn asked v
   unfolding entriesIn
   entries-long h = rw (lt-ltb maxValue (length v) h)
 
@@ -42,7 +38,7 @@ module _ (asked : Bool) (v : List ℕ) where
   entries-short h = rw (le-ltb maxValue (length v) h)
 
 module _ (v : List ℕ) where
-  pub ranges-long : maxValue < length v → rangesResult (fault TooLong) ≡ rangesResult (rangesIn v)
+  pub ranges-long : maxValue < length v → fault TooLong ≡ rangesIn v
   unfolding rangesIn
   ranges-long h = rw (lt-ltb maxValue (length v) h)
 
@@ -50,27 +46,19 @@ module _ (v : List ℕ) where
   unfolding rangesIn
   ranges-short h = rw (le-ltb maxValue (length v) h)
 
-pub entries-verdict : (p : Parsed AddressEntry) → entriesResult p .verdict ≡ parsedVerdict p
-entries-verdict (fault r) = refl
-entries-verdict (all es) = refl
-
-pub ranges-verdict : (p : Parsed RouteRange) → rangesResult p .verdict ≡ parsedVerdict p
-ranges-verdict (fault r) = refl
-ranges-verdict (all rs) = refl
-
 -- ---- the verdict of a value, by its kind
 module _ (kind : ℕ) (v : List ℕ) where
-  pub assign-verdict : (r : EntriesRead) → kind ≡ 1 → r ≡ entriesResult (entriesIn false v) → r .verdict ≡ valueVerdict kind v
+  pub assign-verdict : {r : Verdict} {words : List ℕ} → kind ≡ 1 → ReadsEntries (entriesIn false v) r words → r ≡ valueVerdict kind v
   unfolding valueVerdict
-  assign-verdict r k e = rw (k, e) (entries-verdict (entriesIn false v))
+  assign-verdict k t = rw k (t .verdict)
 
-  pub request-verdict : (r : EntriesRead) → kind ≡ 2 → r ≡ entriesResult (entriesIn true v) → r .verdict ≡ valueVerdict kind v
+  pub request-verdict : {r : Verdict} {words : List ℕ} → kind ≡ 2 → ReadsEntries (entriesIn true v) r words → r ≡ valueVerdict kind v
   unfolding valueVerdict
-  request-verdict r k e = rw (k, e) (entries-verdict (entriesIn true v))
+  request-verdict k t = rw k (t .verdict)
 
-  pub advertise-verdict : (r : RangesRead) → kind ≡ 3 → r ≡ rangesResult (rangesIn v) → r .verdict ≡ valueVerdict kind v
+  pub advertise-verdict : {r : Verdict} {words : List ℕ} → kind ≡ 3 → ReadsRanges (rangesIn v) r words → r ≡ valueVerdict kind v
   unfolding valueVerdict
-  advertise-verdict r k e = rw (k, e) (ranges-verdict (rangesIn v))
+  advertise-verdict k t = rw k (t .verdict)
 
   pub no-list-verdict : (kind ≡ 1 → ⊥) → (kind ≡ 2 → ⊥) → (kind ≡ 3 → ⊥) → Go ≡ valueVerdict kind v
   unfolding valueVerdict

@@ -1,6 +1,7 @@
 -- What reading a capsule from a buffer hands back.
 use Prim.Native.Nat.{ℕ, _+_, _-_, min}
 use mathlib.Core.Bool.{false, true}
+use mathlib.Core.Path.{_≡_}
 use mathlib.Core.List.{List}
 use lib.Dec.{eqb}
 use lib.ListN.{drop}
@@ -10,13 +11,13 @@ use Rattle.answer.specs.declared.Verdict.the-variants.{Go, Stop}
 use Rattle.answer.specs.Choice.{pick}
 use Rattle.lists.specs.declared.AddressEntry.{AddressEntry}
 use Rattle.lists.specs.declared.RouteRange.{RouteRange}
-use Rattle.lists.specs.Words.{addressList, routeList, noAddresses, noRoutes}
+use Rattle.lists.specs.Words.{addressList, routeList, noAddresses, noRoutes, packEntries, packRanges}
 use Rattle.capsule.specs.declared.CapsuleRead.{CapsuleRead}
 use Rattle.capsule.specs.declared.FrameRead.{FrameRead}
 use Rattle.capsule.specs.declared.FrameRead.the-variants.{Value, Refused}
 use Rattle.capsule.specs.declared.list.EntriesRead.{EntriesRead}
 use Rattle.capsule.specs.declared.list.RangesRead.{RangesRead}
-use Rattle.capsule.specs.Elements.{Parsed, fault, all, parsedVerdict}
+use Rattle.capsule.specs.Elements.{Parsed, fault, all, parsedVerdict, elementsOf}
 use Rattle.capsule.specs.Capsules.{kindOf, unknown, entriesIn, rangesIn, Reading, refused, capsule, frameOf, readCapsule}
 
 -- the kind of any type but 0 to 3
@@ -70,3 +71,14 @@ entriesResult (all es) = record { verdict = Go; list = addressList es }
 abbrev pub rangesResult : Parsed RouteRange → RangesRead
 rangesResult (fault r) = record { verdict = Stop r; list = noRoutes }
 rangesResult (all rs) = record { verdict = Go; list = routeList rs }
+
+-- ---- the list of a value in lent words: where the verdict goes they hold it, and where it stops nothing is said of them
+pub record ReadsList {A : Type 0} (pack : List A → List ℕ) (p : Parsed A) (r : Verdict) (words : List ℕ) : Type 0 where
+  pub verdict : r ≡ parsedVerdict p
+  pub list : r ≡ Go → words ≡ pack (elementsOf p)
+
+abbrev pub ReadsEntries : Parsed AddressEntry → Verdict → List ℕ → Type 0
+ReadsEntries p r words = ReadsList packEntries p r words
+
+abbrev pub ReadsRanges : Parsed RouteRange → Verdict → List ℕ → Type 0
+ReadsRanges p r words = ReadsList packRanges p r words

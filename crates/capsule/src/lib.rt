@@ -12,7 +12,9 @@ pub use element::RangeRead;
 pub use list::EntriesRead;
 pub use list::RangesRead;
 pub use list::entries_in;
+pub use list::entries_into;
 pub use list::ranges_in;
+pub use list::ranges_into;
 use varint::NumberRead;
 ghost use mathlib.Core.Path.{_≡_};
 ghost use Prim.Native.Nat.{_≤_, min};
@@ -209,16 +211,16 @@ fn value_verdict(kind: u64, value: &[u8]) -> Verdict
     ensures { λ r. ⌜ r ≡ valueVerdict kind (now (value .entry)) ⌝ }
 {
     if kind == 1 {
-        let found = entries_in(value, false);
-        return found.verdict;
+        let mut words = [0u64; lists::ADDRESS_WORDS];
+        return entries_into(value, false, &mut words);
     }
     if kind == 2 {
-        let found = entries_in(value, true);
-        return found.verdict;
+        let mut words = [0u64; lists::ADDRESS_WORDS];
+        return entries_into(value, true, &mut words);
     }
     if kind == 3 {
-        let found = ranges_in(value);
-        return found.verdict;
+        let mut words = [0u64; lists::ROUTE_WORDS];
+        return ranges_into(value, &mut words);
     }
     Verdict::Go
 }

@@ -13,13 +13,13 @@ use lists::RouteList;
 ghost use mathlib.Core.Path.{_≡_};
 ghost use mathlib.Core.Bool.{false, _&&_};
 ghost use Prim.Native.Nat.{_≤_};
-ghost use lib.ListN.{length};
-ghost use Rattle.lists.specs.Words.{maxAddresses, maxRanges};
+ghost use lib.ListN.{length, replicate};
+ghost use Rattle.lists.specs.Words.{maxAddresses, maxRanges, addressWords, routeWords};
 ghost use Rattle.capsule.specs.Elements.{fault, elementsIn};
 ghost use Rattle.capsule.specs.Entries.{entryFormat, rangeFormat};
 ghost use Rattle.capsule.specs.RequestIds.{idsIn, idsRefused};
 ghost use Rattle.capsule.specs.Capsules.{maxValue, maxEntries, entriesIn, rangesIn};
-ghost use Rattle.capsule.specs.Results.{entriesResult, rangesResult};
+ghost use Rattle.capsule.specs.Results.{entriesResult, rangesResult, ReadsEntries, ReadsRanges};
 
 // The fewest bytes of an entry: an ID of one byte, the version, four bytes of address, the prefix.
 const MIN_ENTRY: usize = 7;
@@ -37,32 +37,71 @@ pub struct RangesRead {
     pub list: RouteList,
 }
 
-// The entries of a value of an ADDRESS_REQUEST, or else of an ADDRESS_ASSIGN.
+// The entries of a value of an ADDRESS_REQUEST, or else of an ADDRESS_ASSIGN. With a refusal the list is empty.
 pub fn entries_in(value: &[u8], request: bool) -> EntriesRead
     ensures { λ r. ⌜ r ≡ entriesResult (entriesIn request (now (value .entry))) ⌝ }
 {
-    if MAX_VALUE < value.len() {
-        return no_entries(Refusal::TooLong);
+    let mut words = [0u64; ADDRESS_WORDS];
+    let verdict = entries_into(value, request, &mut words);
+    match verdict {
+        Verdict::Go => {
+            let list = AddressList { words };
+            EntriesRead {
+                verdict: Verdict::Go,
+                list,
+            }
+        }
+        Verdict::Stop(why) => no_entries(why),
     }
-    read_entries(value, request)
 }
 
-// The ranges of a value of a ROUTE_ADVERTISEMENT.
+// The ranges of a value of a ROUTE_ADVERTISEMENT. With a refusal the list is empty.
 pub fn ranges_in(value: &[u8]) -> RangesRead
     ensures { λ r. ⌜ r ≡ rangesResult (rangesIn (now (value .entry))) ⌝ }
 {
-    if MAX_VALUE < value.len() {
-        return no_ranges(Refusal::TooLong);
+    let mut words = [0u64; ROUTE_WORDS];
+    let verdict = ranges_into(value, &mut words);
+    match verdict {
+        Verdict::Go => {
+            let list = RouteList { words };
+            RangesRead {
+                verdict: Verdict::Go,
+                list,
+            }
+        }
+        Verdict::Stop(why) => no_ranges(why),
     }
-    read_ranges(value)
+}
+
+// An inner function for `exchange`: `entries_in` into lent words, since a list by value is copied once more. It asks for words that are
+// cleared, and on a refusal they mean nothing.
+pub fn entries_into(value: &[u8], request: bool, words: &mut [u64; ADDRESS_WORDS]) -> Verdict
+    requires { ⌜ now words ≡ replicate addressWords 0 ⌝ }
+    ensures { λ r. ⌜ ReadsEntries (entriesIn request (now (value .entry))) r (now (words .exit)) ⌝ }
+{
+    if MAX_VALUE < value.len() {
+        return Verdict::Stop(Refusal::TooLong);
+    }
+    read_entries(value, request, words)
+}
+
+// An inner function for `exchange`: `ranges_in` in the same way, into words that are cleared, and that mean nothing on a refusal.
+pub fn ranges_into(value: &[u8], words: &mut [u64; ROUTE_WORDS]) -> Verdict
+    requires { ⌜ now words ≡ replicate routeWords 0 ⌝ }
+    ensures { λ r. ⌜ ReadsRanges (rangesIn (now (value .entry))) r (now (words .exit)) ⌝ }
+{
+    if MAX_VALUE < value.len() {
+        return Verdict::Stop(Refusal::TooLong);
+    }
+    read_ranges(value, words)
 }
 
 // The entries of a request, or else of an assignment.
-fn read_entries(value: &[u8], request: bool) -> EntriesRead
+fn read_entries(value: &[u8], request: bool, words: &mut [u64; ADDRESS_WORDS]) -> Verdict
     requires { ⌜ length (now value) ≤ maxValue ⌝ }
-    ensures { λ r. ⌜ r ≡ entriesResult (elementsIn (entryFormat request) request maxAddresses (now (value .entry))) ⌝ }
+    requires { ⌜ now words ≡ replicate addressWords 0 ⌝ }
+    ensures { λ r. ⌜ ReadsEntries (elementsIn (entryFormat request) request maxAddresses (now (value .entry))) r (now (words .exit)) ⌝ }
 {
-    let mut words = [0u64; ADDRESS_WORDS];
     let mut count: usize = 0;
     let mut at: usize = 0;
     while at < value.len() {
@@ -70,36 +109,32 @@ fn read_entries(value: &[u8], request: bool) -> EntriesRead
         match r {
             EntryRead::Good { entry, size } => {
                 if count < MAX_ADDRESSES {
-                    lists::put_entry(&mut words, count, entry);
+                    lists::put_entry(words, count, entry);
                 }
                 count += 1;
                 at += size;
             }
             EntryRead::Bad => {
                 if ids_refused(value, request, count) {
-                    return no_entries(Refusal::BadRequestId);
+                    return Verdict::Stop(Refusal::BadRequestId);
                 }
-                return no_entries(Refusal::BadAddress);
+                return Verdict::Stop(Refusal::BadAddress);
             }
         }
     }
     if ids_refused(value, request, count) {
-        return no_entries(Refusal::BadRequestId);
+        return Verdict::Stop(Refusal::BadRequestId);
     }
     if count == 0 {
         if request {
-            return no_entries(Refusal::BadRequestId);
+            return Verdict::Stop(Refusal::BadRequestId);
         }
     }
     if MAX_ADDRESSES < count {
-        return no_entries(Refusal::TooMany);
+        return Verdict::Stop(Refusal::TooMany);
     }
     words[0] = count as u64;
-    let list = AddressList { words };
-    EntriesRead {
-        verdict: Verdict::Go,
-        list,
-    }
+    Verdict::Go
 }
 
 // Whether this is a request, and of the IDs before its end or its first bad entry, `count` of them, one is zero or two are equal.
@@ -174,11 +209,11 @@ fn no_entries(why: Refusal) -> EntriesRead
 }
 
 // The ranges of an advertisement.
-fn read_ranges(value: &[u8]) -> RangesRead
+fn read_ranges(value: &[u8], words: &mut [u64; ROUTE_WORDS]) -> Verdict
     requires { ⌜ length (now value) ≤ maxValue ⌝ }
-    ensures { λ r. ⌜ r ≡ rangesResult (elementsIn rangeFormat false maxRanges (now (value .entry))) ⌝ }
+    requires { ⌜ now words ≡ replicate routeWords 0 ⌝ }
+    ensures { λ r. ⌜ ReadsRanges (elementsIn rangeFormat false maxRanges (now (value .entry))) r (now (words .exit)) ⌝ }
 {
-    let mut words = [0u64; ROUTE_WORDS];
     let mut last = lists::before_all();
     let mut count: usize = 0;
     let mut at: usize = 0;
@@ -187,29 +222,25 @@ fn read_ranges(value: &[u8]) -> RangesRead
         match r {
             RangeRead::Good { range, size } => {
                 if !lists::in_order(last, range) {
-                    return no_ranges(Refusal::RangesOutOfOrder);
+                    return Verdict::Stop(Refusal::RangesOutOfOrder);
                 }
                 if count < MAX_RANGES {
-                    lists::put_range(&mut words, count, range);
+                    lists::put_range(words, count, range);
                 }
                 last = range;
                 count += 1;
                 at += size;
             }
             RangeRead::Bad => {
-                return no_ranges(Refusal::BadRange);
+                return Verdict::Stop(Refusal::BadRange);
             }
         }
     }
     if MAX_RANGES < count {
-        return no_ranges(Refusal::TooMany);
+        return Verdict::Stop(Refusal::TooMany);
     }
     words[0] = count as u64;
-    let list = RouteList { words };
-    RangesRead {
-        verdict: Verdict::Go,
-        list,
-    }
+    Verdict::Go
 }
 
 fn no_ranges(why: Refusal) -> RangesRead

@@ -16,39 +16,13 @@ use Rattle.lists.specs.declared.AddressEntry.{AddressEntry}
 use Rattle.lists.specs.declared.RouteRange.{RouteRange}
 use Rattle.lists.specs.Words.{packEntries, packRanges}
 use Rattle.capsule.specs.declared.CapsuleRead.{CapsuleRead}
-use Rattle.capsule.specs.declared.list.EntriesRead.{EntriesRead}
-use Rattle.capsule.specs.declared.list.RangesRead.{RangesRead}
 use Rattle.capsule.specs.Elements.{Parsed, fault, all, parsedVerdict, elementsOf}
 use Rattle.capsule.specs.Capsules.{maxValue, assign, request, advertise, listed, entriesIn, rangesIn, readValue}
-use Rattle.capsule.specs.Results.{otherKind, refusedAt, judgedAt, readAt, frameIn, valueVerdict, entriesResult, rangesResult}
+use Rattle.capsule.specs.Results.{otherKind, refusedAt, judgedAt, readAt, frameIn, valueVerdict}
 use Rattle.capsule.proofs.ValueCases as Value
 use Rattle.state.specs.State.{stateIn, soundState}
 use Rattle.exchange.specs.Reading.{receiveAddresses, receiveRoutes, received, requested, readingIn, receivedValue, requestedValue}
 use Rattle.exchange.specs.Reading.{ReadsCapsule, TakesCapsule, TakesList, TakesAssign, TakesRoutes, TakesRequest, TakesValue}
-
--- ---- a list that was taken from a value, or not
-module _ (p : Parsed AddressEntry) where
-  -- the list, where the verdict goes
-  pub entries-list : {r : EntriesRead} → r ≡ entriesResult p → r .verdict ≡ Go → r .list .words ≡ packEntries (elementsOf p)
-  entries-list {r} e g = ap (λ (x : EntriesRead). x .list .words) e ∙ of p (sym (ap (λ (x : EntriesRead). x .verdict) e) ∙ g)
-    where
-      of : (q : Parsed AddressEntry) → entriesResult q .verdict ≡ Go → entriesResult q .list .words ≡ packEntries (elementsOf q)
-      of (fault w) h = let z : _≡_ {A = ℕ} 0 1 = cc in absurd (omega arith)
-      of (all es) h = refl
-
-  pub entries-says : {r : EntriesRead} {u : Verdict} → r ≡ entriesResult p → r .verdict ≡ u → parsedVerdict p ≡ u
-  entries-says e g = sym (Value.entries-verdict p) ∙ sym (ap (λ (x : EntriesRead). x .verdict) e) ∙ g
-
-module _ (p : Parsed RouteRange) where
-  pub ranges-list : {r : RangesRead} → r ≡ rangesResult p → r .verdict ≡ Go → r .list .words ≡ packRanges (elementsOf p)
-  ranges-list {r} e g = ap (λ (x : RangesRead). x .list .words) e ∙ of p (sym (ap (λ (x : RangesRead). x .verdict) e) ∙ g)
-    where
-      of : (q : Parsed RouteRange) → rangesResult q .verdict ≡ Go → rangesResult q .list .words ≡ packRanges (elementsOf q)
-      of (fault w) h = let z : _≡_ {A = ℕ} 0 1 = cc in absurd (omega arith)
-      of (all rs) h = refl
-
-  pub ranges-says : {r : RangesRead} {u : Verdict} → r ≡ rangesResult p → r .verdict ≡ u → parsedVerdict p ≡ u
-  ranges-says e g = sym (Value.ranges-verdict p) ∙ sym (ap (λ (x : RangesRead). x .verdict) e) ∙ g
 
 -- ---- the list of a value
 module _ {u : Verdict} {new before : List ℕ} {at : ℕ} {f : CapsuleRead} where

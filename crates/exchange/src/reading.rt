@@ -4,6 +4,7 @@ use answer::Verdict;
 use capsule::CapsuleRead;
 use lists::ADDRESS_WORDS;
 use lists::AddressList;
+use lists::ROUTE_WORDS;
 use lists::RouteList;
 use state::STATE_WORDS;
 ghost use mathlib.Core.Path.{_≡_};
@@ -84,11 +85,11 @@ fn take_assign(
 ) -> CapsuleRead
     ensures { λ r. ⌜ TakesAssign (now (state .entry)) (now (value .entry)) at found r (now (state .exit)) ⌝ }
 {
-    let read = capsule::entries_in(value, false);
-    let verdict = read.verdict;
+    let mut words = [0u64; ADDRESS_WORDS];
+    let verdict = capsule::entries_into(value, false, &mut words);
     match verdict {
         Verdict::Go => {
-            let list = read.list;
+            let list = AddressList { words };
             receive_addresses(state, list);
             found
         }
@@ -104,12 +105,10 @@ fn take_request(
 ) -> CapsuleRead
     ensures { λ r. ⌜ TakesRequest (now (requested .entry)) (now (value .entry)) at found r (now (requested .exit)) ⌝ }
 {
-    let read = capsule::entries_in(value, true);
-    let verdict = read.verdict;
+    let mut words = [0u64; ADDRESS_WORDS];
+    let verdict = capsule::entries_into(value, true, &mut words);
     match verdict {
         Verdict::Go => {
-            let list = read.list;
-            let words = list.words;
             *requested = words;
             found
         }
@@ -125,11 +124,11 @@ fn take_routes(
 ) -> CapsuleRead
     ensures { λ r. ⌜ TakesRoutes (now (state .entry)) (now (value .entry)) at found r (now (state .exit)) ⌝ }
 {
-    let read = capsule::ranges_in(value);
-    let verdict = read.verdict;
+    let mut words = [0u64; ROUTE_WORDS];
+    let verdict = capsule::ranges_into(value, &mut words);
     match verdict {
         Verdict::Go => {
-            let list = read.list;
+            let list = RouteList { words };
             receive_routes(state, list);
             found
         }

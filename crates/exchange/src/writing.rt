@@ -53,14 +53,10 @@ pub fn assign(state: &mut [u64; STATE_WORDS], value: &[u8], out: &mut [u8]) -> A
     let first = ready(state, out.len());
     match first {
         Verdict::Go => {
-            let found = capsule::entries_in(value, false);
-            let verdict = found.verdict;
+            let mut words = [0u64; ADDRESS_WORDS];
+            let verdict = capsule::entries_into(value, false, &mut words);
             match verdict {
-                Verdict::Go => {
-                    let list = found.list;
-                    let words = list.words;
-                    give_addresses(state, &words, out)
-                }
+                Verdict::Go => give_addresses(state, &words, out),
                 Verdict::Stop(why) => Answer::Refused(why),
             }
         }
@@ -75,14 +71,10 @@ pub fn advertise(state: &mut [u64; STATE_WORDS], value: &[u8], out: &mut [u8]) -
     let first = ready(state, out.len());
     match first {
         Verdict::Go => {
-            let found = capsule::ranges_in(value);
-            let verdict = found.verdict;
+            let mut words = [0u64; ROUTE_WORDS];
+            let verdict = capsule::ranges_into(value, &mut words);
             match verdict {
-                Verdict::Go => {
-                    let list = found.list;
-                    let words = list.words;
-                    give_routes(state, &words, out)
-                }
+                Verdict::Go => give_routes(state, &words, out),
                 Verdict::Stop(why) => Answer::Refused(why),
             }
         }
@@ -97,14 +89,10 @@ pub fn request(value: &[u8], out: &mut [u8]) -> Answer
     if out.len() < CAPSULE_ROOM {
         return Answer::Refused(Refusal::NoRoom);
     }
-    let found = capsule::entries_in(value, true);
-    let verdict = found.verdict;
+    let mut words = [0u64; ADDRESS_WORDS];
+    let verdict = capsule::entries_into(value, true, &mut words);
     match verdict {
-        Verdict::Go => {
-            let list = found.list;
-            let words = list.words;
-            capsule_write::write_request(&words, out)
-        }
+        Verdict::Go => capsule_write::write_request(&words, out),
         Verdict::Stop(why) => Answer::Refused(why),
     }
 }

@@ -11,6 +11,7 @@ use Rattle.capsule.specs.declared.element.EntryRead.the-variants.{Good}
 use Rattle.capsule.specs.Entries.{readEntry}
 use Rattle.capsule.proofs.EntryCases as Entry
 use Rattle.capsule.proofs.EntriesTurn as T
+use Rattle.capsule.proofs.ListCases.{reads-fault}
 use Rattle.capsule.proofs.list.read_entries.Statement.{statement}
 use Rattle.capsule.proofs.list.read_entries.Tie as tie
 
@@ -36,7 +37,7 @@ turned c =
     (c .if1 .came)
 
 loop-holds : tie.Need-loop-holds Inv-loop μ-loop
-loop-holds c = T.start _ _
+loop-holds c = T.start _ _ (c .before .pre .1)
 
 sub-read-entry : tie.Need-sub-read-entry Inv-loop μ-loop
 sub-read-entry c = search needs
@@ -74,41 +75,26 @@ enum-told c = search needs
 ids-refused-requires : tie.Need-ids-refused-requires Inv-loop μ-loop
 ids-refused-requires c κs = (search needs, T.ids-before (c .before .before .before .before .before .loop .inv) (omega arith) (rw Parts.tail at (sym (c .before .before .read-entry .ensures) ∙ c .enum-told .given .1)))
 
-no-entries-requires : tie.Need-no-entries-requires Inv-loop μ-loop
-no-entries-requires c κs = search needs
-
 returns : tie.Need-returns Inv-loop μ-loop
-returns c = c .no-entries .ensures ∙ T.refused _ _ _ (c .before .before .ids-refused .ensures) (c .before .if2 .taken)
-
-no-entries-requires-2 : tie.Need-no-entries-requires-2 Inv-loop μ-loop
-no-entries-requires-2 c κs = search needs
+returns c = reads-fault (T.refused _ _ _ (c .before .ids-refused .ensures) (c .if2 .taken))
 
 returns-2 : tie.Need-returns-2 Inv-loop μ-loop
-returns-2 c = c .no-entries2 .ensures ∙ T.passed _ _ _ (c .before .before .ids-refused .ensures) (c .before .if2 .left) (T.fault-entry (c .before .before .before .before .before .before .before .before .loop .inv) (omega arith) (rw Parts.tail at (sym (c .before .before .before .before .before .read-entry .ensures) ∙ c .before .before .before .enum-told .given .1)))
+returns-2 c = reads-fault (T.passed _ _ _ (c .before .ids-refused .ensures) (c .if2 .left) (T.fault-entry (c .before .before .before .before .before .before .before .loop .inv) (omega arith) (rw Parts.tail at (sym (c .before .before .before .before .read-entry .ensures) ∙ c .before .before .enum-told .given .1))))
 
 ids-refused-requires-2 : tie.Need-ids-refused-requires-2 Inv-loop μ-loop
 ids-refused-requires-2 c κs = (search needs, T.ids-all (c .before .loop .inv) (omega arith))
 
-no-entries-requires-3 : tie.Need-no-entries-requires-3 Inv-loop μ-loop
-no-entries-requires-3 c κs = search needs
-
 returns-3 : tie.Need-returns-3 Inv-loop μ-loop
-returns-3 c = c .no-entries3 .ensures ∙ T.refused _ _ _ (c .before .before .ids-refused2 .ensures) (c .before .if3 .taken)
-
-no-entries-requires-4 : tie.Need-no-entries-requires-4 Inv-loop μ-loop
-no-entries-requires-4 c κs = search needs
+returns-3 c = reads-fault (T.refused _ _ _ (c .before .ids-refused2 .ensures) (c .if3 .taken))
 
 returns-4 : tie.Need-returns-4 Inv-loop μ-loop
-returns-4 c = c .no-entries4 .ensures ∙ T.passed _ _ _ (c .before .before .before .before .ids-refused2 .ensures) (c .before .before .before .if3 .left) (T.empty (c .before .before .before .before .before .before .loop .inv) (omega arith) (omega arith) (c .before .if5 .taken))
-
-no-entries-requires-5 : tie.Need-no-entries-requires-5 Inv-loop μ-loop
-no-entries-requires-5 c κs = search needs
+returns-4 c = reads-fault (T.passed _ _ _ (c .before .before .before .ids-refused2 .ensures) (c .before .before .if3 .left) (T.empty (c .before .before .before .before .before .loop .inv) (omega arith) (omega arith) (c .if5 .taken)))
 
 returns-5 : tie.Need-returns-5 Inv-loop μ-loop
-returns-5 c = c .no-entries5 .ensures ∙ T.passed _ _ _ (c .before .before .before .before .ids-refused2 .ensures) (c .before .before .before .if3 .left) (T.many (c .before .before .before .before .before .before .loop .inv) (omega arith) (omega arith))
+returns-5 c = reads-fault (T.passed _ _ _ (c .before .before .before .ids-refused2 .ensures) (c .before .before .if3 .left) (T.many (c .before .before .before .before .before .loop .inv) (omega arith) (omega arith)))
 
-array-write-words : tie.Need-array-write-words Inv-loop μ-loop
-array-write-words c = search needs
+element-write-words : tie.Need-element-write-words Inv-loop μ-loop
+element-write-words c = search needs
 
 returns-6 : tie.Need-returns-6 Inv-loop μ-loop
 returns-6 c = T.fine (c .before .before .before .before .before .loop .inv) (omega arith) _ (c .before .before .before .ids-refused2 .ensures) (c .before .before .if3 .left) (omega arith) (⊎-elim (λ w. λ e. w .1 .left) (λ w. λ e. absurd (w .left e)) (c .before .if4 .came))
@@ -132,16 +118,11 @@ read-entries-spec =
     loop-again
     enum-told
     ids-refused-requires
-    no-entries-requires
     returns
-    no-entries-requires-2
     returns-2
     ids-refused-requires-2
-    no-entries-requires-3
     returns-3
-    no-entries-requires-4
     returns-4
-    no-entries-requires-5
     returns-5
-    array-write-words
+    element-write-words
     returns-6)

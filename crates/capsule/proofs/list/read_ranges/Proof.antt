@@ -11,6 +11,7 @@ use Rattle.octets.proofs.Parts as Parts
 use Rattle.capsule.specs.declared.element.RangeRead.the-variants.{Good}
 use Rattle.capsule.specs.Entries.{readRange}
 use Rattle.capsule.proofs.RangeCases as Range
+use Rattle.capsule.proofs.ListCases.{reads-fault}
 use Rattle.capsule.proofs.RangesTurn as T
 use Rattle.capsule.proofs.list.read_ranges.Statement.{statement}
 use Rattle.capsule.proofs.list.read_ranges.Tie as tie
@@ -41,7 +42,7 @@ before-all-requires : tie.Need-before-all-requires Inv-loop μ-loop
 before-all-requires c κs = search needs
 
 loop-holds : tie.Need-loop-holds Inv-loop μ-loop
-loop-holds c = T.start _ _ (c .before-all .ensures)
+loop-holds c = T.start _ _ (c .before .before .pre .1) (c .before-all .ensures)
 
 sub-read-range : tie.Need-sub-read-range Inv-loop μ-loop
 sub-read-range c = omega (arith, c .before .loop .inv .reading .within)
@@ -61,11 +62,8 @@ enum-known-r c = search needs
 in-order-requires : tie.Need-in-order-requires Inv-loop μ-loop
 in-order-requires c κs = search needs
 
-no-ranges-requires : tie.Need-no-ranges-requires Inv-loop μ-loop
-no-ranges-requires c κs = search needs
-
 returns : tie.Need-returns Inv-loop μ-loop
-returns c = c .no-ranges .ensures ∙ T.fault-order (c .before .before .before .before .before .before .before .before .before .loop .inv) (omega arith) _ _ (rw Parts.tail at (sym (c .before .before .before .before .before .before .read-range .ensures) ∙ c .before .before .before .before .r .given .1)) (sym (c .before .before .in-order .ensures) ∙ not-true _ (c .before .if1 .taken))
+returns c = reads-fault (T.fault-order (c .before .before .before .before .before .before .before .before .loop .inv) (omega arith) _ _ (rw Parts.tail at (sym (c .before .before .before .before .before .read-range .ensures) ∙ c .before .before .before .r .given .1)) (sym (c .before .in-order .ensures) ∙ not-true _ (c .if1 .taken)))
 
 put-range-requires : tie.Need-put-range-requires Inv-loop μ-loop
 put-range-requires c κs = search needs
@@ -85,20 +83,14 @@ loop-again c = turned c
 enum-told : tie.Need-enum-told Inv-loop μ-loop
 enum-told c = search needs
 
-no-ranges-requires-2 : tie.Need-no-ranges-requires-2 Inv-loop μ-loop
-no-ranges-requires-2 c κs = search needs
-
 returns-2 : tie.Need-returns-2 Inv-loop μ-loop
-returns-2 c = c .no-ranges2 .ensures ∙ T.fault-range (c .before .before .before .before .before .before .loop .inv) (omega arith) (rw Parts.tail at (sym (c .before .before .before .read-range .ensures) ∙ c .before .enum-told .given .1))
-
-no-ranges-requires-3 : tie.Need-no-ranges-requires-3 Inv-loop μ-loop
-no-ranges-requires-3 c κs = search needs
+returns-2 c = reads-fault (T.fault-range (c .before .before .before .before .before .loop .inv) (omega arith) (rw Parts.tail at (sym (c .before .before .read-range .ensures) ∙ c .enum-told .given .1)))
 
 returns-3 : tie.Need-returns-3 Inv-loop μ-loop
-returns-3 c = c .no-ranges3 .ensures ∙ T.many (c .before .before .before .loop .inv) (omega arith) (omega arith)
+returns-3 c = reads-fault (T.many (c .before .before .loop .inv) (omega arith) (omega arith))
 
-array-write-words : tie.Need-array-write-words Inv-loop μ-loop
-array-write-words c = search needs
+element-write-words : tie.Need-element-write-words Inv-loop μ-loop
+element-write-words c = search needs
 
 returns-4 : tie.Need-returns-4 Inv-loop μ-loop
 returns-4 c = T.fine (c .before .before .loop .inv) (omega arith) (omega arith)
@@ -117,7 +109,6 @@ read-ranges-spec =
     read-range-requires
     enum-known-r
     in-order-requires
-    no-ranges-requires
     returns
     put-range-requires
     add-count
@@ -125,9 +116,7 @@ read-ranges-spec =
     loop-less
     loop-again
     enum-told
-    no-ranges-requires-2
     returns-2
-    no-ranges-requires-3
     returns-3
-    array-write-words
+    element-write-words
     returns-4)

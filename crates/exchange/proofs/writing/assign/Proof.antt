@@ -1,8 +1,6 @@
 -- The refusals before the bytes are looked at, a value that is refused, and a list that is written as it was read.
-use mathlib.Core.Bool.{false}
 use mathlib.Core.Path.{sym, _∙_}
-use Rattle.capsule.specs.Capsules.{entriesIn}
-use Rattle.exchange.proofs.ReadCases.{entries-says, entries-list}
+use Rattle.capsule.proofs.ListCases.{reads-says}
 use Rattle.exchange.proofs.WriteCases as Write
 use borrow.Author.Needs.{needs}
 use Rattle.exchange.proofs.writing.assign.Statement.{statement}
@@ -14,14 +12,14 @@ ready-requires c κs = search needs
 enum-told : tie.Need-enum-told
 enum-told c = search needs
 
-entries-in-requires : tie.Need-entries-in-requires
-entries-in-requires c κs = search needs
+entries-into-requires : tie.Need-entries-into-requires
+entries-into-requires c κs = search needs
 
 enum-told-2 : tie.Need-enum-told-2
 enum-told-2 c = search needs
 
 give-addresses-requires : tie.Need-give-addresses-requires
-give-addresses-requires c κs = Write.ready-room _ _ (sym (c .before .before .before .before .before .before .before .before .before .before .ready .ensures) ∙ c .before .before .before .before .before .before .before .before .enum-told .given .1)
+give-addresses-requires c κs = Write.ready-room _ _ (sym (c .before .before .before .before .before .before .before .before .before .ready .ensures) ∙ c .before .before .before .before .before .before .before .enum-told .given .1)
 
 enum-known-verdict : tie.Need-enum-known-verdict
 enum-known-verdict c = search needs
@@ -34,15 +32,13 @@ same-length c = search needs
 
 returns : tie.Need-returns
 returns c =
-    let a = c .before .before .before .before .before .before .before .before .before .before .before .before .before .before .before .before .before .args in
-    let p = entriesIn false (a .value .now) in
-    Write.assign-written (a .state .now) (a .value .now) (a .out .now) (sym (c .before .before .before .before .before .before .before .before .before .before .before .before .before .ready .ensures) ∙ c .before .before .before .before .before .before .before .before .before .before .before .enum-told .given .1)
-    (entries-says p (c .before .before .before .before .before .before .before .before .before .before .entries-in .ensures) (c .before .before .before .before .before .before .before .before .enum-told2 .given .1)) (entries-list p (c .before .before .before .before .before .before .before .before .before .before .entries-in .ensures) (c .before .before .before .before .before .before .before .before .enum-told2 .given .1)) (c .before .before .give-addresses .ensures)
+    let a = c .before .before .before .before .before .before .before .before .before .before .before .before .before .before .before .before .args in
+    let t = c .before .before .before .before .before .before .before .before .entries-into .ensures in
+    let g = c .before .before .before .before .before .before .enum-told2 .given .1 in
+    Write.assign-written (a .state .now) (a .value .now) (a .out .now) (sym (c .before .before .before .before .before .before .before .before .before .before .before .before .ready .ensures) ∙ c .before .before .before .before .before .before .before .before .before .before .enum-told .given .1) (reads-says t g) (t .list g) (c .before .before .give-addresses .ensures)
 
 returns-2 : tie.Need-returns-2
-returns-2 c =
-    let p = entriesIn false (c .before .before .before .before .before .before .before .before .before .before .args .value .now) in
-    Write.gives-stopped (Write.ready-says _ _ _ (sym (c .before .before .before .before .before .before .ready .ensures) ∙ c .before .before .before .before .enum-told .given .1) ∙ entries-says p (c .before .before .before .entries-in .ensures) (c .before .verdict .given .1))
+returns-2 c = Write.gives-stopped (Write.ready-says _ _ _ (sym (c .before .before .before .before .before .before .before .ready .ensures) ∙ c .before .before .before .before .before .enum-told .given .1) ∙ reads-says (c .before .before .before .entries-into .ensures) (c .before .verdict .given .1))
 
 returns-3 : tie.Need-returns-3
 returns-3 c = Write.gives-stopped (Write.ready-stops _ _ _ (sym (c .before .before .before .ready .ensures) ∙ c .before .first .given .1))
@@ -53,7 +49,7 @@ assign-spec =
     (tie.spec
     ready-requires
     enum-told
-    entries-in-requires
+    entries-into-requires
     enum-told-2
     give-addresses-requires
     enum-known-verdict

@@ -1,7 +1,5 @@
 -- Too small an output, a value that is refused, and a list that is written as it was read.
-use mathlib.Core.Bool.{true}
-use Rattle.capsule.specs.Capsules.{entriesIn}
-use Rattle.exchange.proofs.ReadCases.{entries-says, entries-list}
+use Rattle.capsule.proofs.ListCases.{reads-says}
 use Rattle.exchange.proofs.WriteCases as Write
 use borrow.Author.Needs.{needs}
 use Rattle.exchange.proofs.writing.request.Statement.{statement}
@@ -10,8 +8,8 @@ use Rattle.exchange.proofs.writing.request.Tie as tie
 returns : tie.Need-returns
 returns c = Write.request-no-room _ _ (c .if1 .taken)
 
-entries-in-requires : tie.Need-entries-in-requires
-entries-in-requires c κs = search needs
+entries-into-requires : tie.Need-entries-into-requires
+entries-into-requires c κs = search needs
 
 enum-told : tie.Need-enum-told
 enum-told c = search needs
@@ -27,20 +25,20 @@ same-length c = search needs
 
 returns-2 : tie.Need-returns-2
 returns-2 c =
-    let a = c .before .before .before .before .before .before .before .before .before .before .before .before .before .args in
-    let p = entriesIn true (a .value .now) in
-    Write.request-written (a .value .now) (a .out .now) (c .before .before .before .before .before .before .before .before .before .before .if1 .left) (entries-says p (c .before .before .before .before .before .before .before .before .before .entries-in .ensures) (c .before .before .before .before .before .before .before .enum-told .given .1))
-    (entries-list p (c .before .before .before .before .before .before .before .before .before .entries-in .ensures) (c .before .before .before .before .before .before .before .enum-told .given .1)) (c .before .before .write-request .ensures)
+    let a = c .before .before .before .before .before .before .before .before .before .before .before .before .args in
+    let t = c .before .before .before .before .before .before .before .entries-into .ensures in
+    let g = c .before .before .before .before .before .enum-told .given .1 in
+    Write.request-written (a .value .now) (a .out .now) (c .before .before .before .before .before .before .before .before .before .if1 .left) (reads-says t g) (t .list g) (c .before .before .write-request .ensures)
 
 returns-3 : tie.Need-returns-3
-returns-3 c = Write.request-refused _ _ (c .before .before .before .before .if1 .left) (entries-says (entriesIn true (c .before .before .before .before .before .before .before .args .value .now)) (c .before .before .before .entries-in .ensures) (c .before .verdict .given .1))
+returns-3 c = Write.request-refused _ _ (c .before .before .before .before .before .if1 .left) (reads-says (c .before .before .before .entries-into .ensures) (c .before .verdict .given .1))
 
 pub request-spec : {M : Type 1} → statement M
 request-spec =
     tie.close
     (tie.spec
     returns
-    entries-in-requires
+    entries-into-requires
     enum-told
     write-request-requires
     enum-known-verdict
