@@ -12,6 +12,8 @@ pub mod EndLaws
 pub mod WordLaws
 pub mod CaseLaws
 pub mod CodeLaws
+pub mod FreshLaws
+pub mod StayLaws
 pub mod StoreCases
 pub mod FeedCases
 pub mod HandCases

@@ -1,9 +1,9 @@
 -- What the inner functions of a call promise.
-use Prim.Native.Nat.{ℕ, _+_, _≤_, _<_}
+use Prim.Native.Nat.{ℕ, _+_, _-_, _≤_, _<_, _^_}
 use mathlib.Core.Path.{_≡_}
-use mathlib.Core.Bool.{Bool, true, _&&_}
+use mathlib.Core.Bool.{Bool, true, false, _&&_}
 use mathlib.Core.List.{List, [], _++_}
-use lib.Dec.{eqb}
+use lib.Dec.{ltb, eqb}
 use lib.ListN.{length, getD, set, take, drop}
 use Rattle.answer.specs.declared.Refusal.{Refusal}
 use Rattle.answer.specs.declared.Verdict.{Verdict}
@@ -11,6 +11,7 @@ use Rattle.answer.specs.declared.Verdict.the-variants.{Go, Stop}
 use Rattle.answer.specs.Number.{numberOf}
 use Rattle.capsule.specs.declared.FrameRead.the-variants.{Value}
 use Rattle.capsule.specs.declared.Head.{Head}
+use Rattle.capsule.specs.declared.Head.the-variants as Head
 use Rattle.capsule.specs.Heads.{HeadRead}
 use Rattle.capsule.specs.Capsules.{frameOf}
 use Rattle.state.specs.State.{storeAt, stateWords}
@@ -32,6 +33,20 @@ KeptHead w held r = getD w storeAt 0 < keptSize → HeadRead (take (getD w store
 pub record Judged (w held : List ℕ) (r : Bool) : Type 0 where
   pub answer : r ≡ soundStore (storeIn w held)
   pub within : r ≡ true → getD w storeAt 0 < keptSize
+
+-- nothing is kept, skipped or remembered
+abbrev pub isEmpty : List ℕ → Bool
+isEmpty w = eqb (getD w storeAt 0) 0 && (eqb (getD w (storeAt + 1) 0) 0 && eqb (getD w (storeAt + 2) 0) 0)
+
+-- a capsule of this head ends behind so many bytes, or with them, at a place that a word holds; of a head that is cut nothing is said
+abbrev pub EndsBehind : Head → ℕ → Type 0
+EndsBehind (Head.Known kind start size) count = (count ≤ start + size) × (start + size < 2 ^ 64)
+EndsBehind Head.Cut count = Unit {0}
+
+-- a capsule of this head, of which `count` bytes are kept, does not end in so many more
+abbrev pub staysOpen : Head → ℕ → ℕ → Bool
+staysOpen (Head.Known kind start size) count given = ltb given (start + size - count)
+staysOpen Head.Cut count given = false
 
 -- ---- answers
 abbrev pub refusing : Refusal → Piece
@@ -96,7 +111,12 @@ pub record Live (w : List ℕ) : Type 0 where
   pub skip : getD w (storeAt + 1) 0 ≡ 0
   pub stopped : getD w (storeAt + 2) 0 ≡ 0
 
--- and the store keeps its rules: it collects the bytes of an open capsule
+-- and nothing is kept
+pub record Fresh (w : List ℕ) : Type 0 where
+  pub live : Live w
+  pub none : getD w storeAt 0 ≡ 0
+
+-- or the store keeps its rules: it collects the bytes of an open capsule
 pub record Collecting (w held : List ℕ) : Type 0 where
   pub live : Live w
   pub sound : soundStore (storeIn w held) ≡ true

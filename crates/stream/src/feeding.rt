@@ -25,7 +25,7 @@ ghost use Rattle.state.specs.State.{storeAt, stateWords};
 ghost use Rattle.exchange.specs.Reading.{TakesCapsule};
 ghost use Rattle.stream.specs.Store.{onSkip};
 ghost use Rattle.stream.specs.Feeding.{keptSize, Feeds, fed};
-ghost use Rattle.stream.specs.Inner.{refusing, Refuses, HandsOut, Settles, Moves, Keeps, Goes, keepsAll, Live, Collecting};
+ghost use Rattle.stream.specs.Inner.{refusing, Refuses, HandsOut, Settles, Moves, Keeps, Goes, keepsAll, isEmpty, EndsBehind, staysOpen, Live, Fresh, Collecting};
 
 // What a call says: 0 with a capsule of a kind, and how many bytes of its value stand in the output; 0 between capsules; 1, in a capsule; or any
 // other number.
@@ -60,6 +60,9 @@ pub fn feed(
     if !state::state_sound(state) {
         return stopped(Refusal::BrokenState);
     }
+    if is_empty(state) {
+        return feed_first(state, kept, bytes, out, requested);
+    }
     let head = kept_head(state, kept);
     if !store_sound(state, kept, head) {
         return stopped(Refusal::BrokenState);
@@ -71,9 +74,28 @@ pub fn feed(
             if 0 < skip {
                 return pass_over(state, skip, bytes.len());
             }
+            // most pieces of a long capsule end here, before the head goes through memory to another function
+            if stays_open(head, state[STORE_AT], bytes.len()) {
+                return keep(state, kept, bytes);
+            }
             feed_open(state, kept, head, bytes, out, requested)
         }
         Verdict::Stop(why) => stopped(why),
+    }
+}
+
+// Whether a capsule of this head, of which `count` bytes are kept, does not end in so many bytes more.
+fn stays_open(head: Head, count: u64, given: usize) -> bool
+    requires { ⌜ EndsBehind head count ⌝ }
+    ensures { λ r. ⌜ r ≡ staysOpen head count given ⌝ }
+{
+    match head {
+        Head::Known {
+            kind: _,
+            start,
+            length,
+        } => (given as u64) < (start as u64 + length) - count,
+        Head::Cut => false,
     }
 }
 
@@ -84,6 +106,63 @@ fn stopped(why: Refusal) -> Piece
     Piece {
         call: Call::Stopped(why),
         taken: 0,
+    }
+}
+
+// Whether a store keeps nothing, skips nothing and remembers nothing.
+fn is_empty(state: &[u64]) -> bool
+    requires { ⌜ stateWords ≤ length (now state) ⌝ }
+    ensures { λ r. ⌜ r ≡ isEmpty (now (state .entry)) ⌝ }
+{
+    if state[STORE_AT] != 0 {
+        return false;
+    }
+    if state[SKIP_AT] != 0 {
+        return false;
+    }
+    state[STOPPED_AT] == 0
+}
+
+// An empty store: the bytes given start the capsule. A way of its own, so that no head is handed from function to function through memory; a whole
+// DATAGRAM writes no word of the store, which are 0 already. A list goes the way of every other store.
+fn feed_first(
+    state: &mut [u64; STATE_WORDS],
+    kept: &mut [u8],
+    bytes: &[u8],
+    out: &mut [u8],
+    requested: &mut [u64; ADDRESS_WORDS],
+) -> Piece
+    requires { ⌜ (Fresh (now state)) × (maxValue ≤ length (now out)) × (length (now kept) ≡ keptSize) ⌝ }
+    ensures { λ r. ⌜ Goes (fed (now (state .entry)) (now (kept .entry)) (now (bytes .entry))) (now (state .entry)) (now (kept .entry))
+        (now (out .entry)) (now (requested .entry)) r (now (state .exit)) (now (kept .exit)) (now (out .exit)) (now (requested .exit)) ⌝ }
+{
+    let h = capsule::read_head(bytes);
+    match h {
+        Head::Known {
+            kind,
+            start,
+            length,
+        } => {
+            if 3 < kind {
+                return pass_over(state, start as u64 + length, bytes.len());
+            }
+            if (MAX_VALUE as u64) < length {
+                return remember(state, Refusal::TooLong);
+            }
+            let end = start + length as usize;
+            if bytes.len() < end {
+                return keep(state, kept, bytes);
+            }
+            if kind == 0 {
+                let n = output::put_many(out, 0, &bytes[start..end]);
+                return Piece {
+                    call: Call::Handed { kind: 0, length: n },
+                    taken: end,
+                };
+            }
+            feed_open(state, kept, Head::Cut, bytes, out, requested)
+        }
+        Head::Cut => keep(state, kept, bytes),
     }
 }
 
@@ -179,8 +258,8 @@ fn gather(kept: &[u8], bytes: &[u8], space: &mut [u8]) -> usize
     requires { ⌜ length (now kept) + length (now bytes) ≤ length (now space) ⌝ }
     ensures { λ r. ⌜ Put (now (kept .entry) ++ now (bytes .entry)) 0 (now (space .entry)) r (now (space .exit)) ⌝ }
 {
-    let n = output::put_bytes(space, 0, kept);
-    output::put_bytes(space, n, bytes)
+    let n = output::put_many(space, 0, kept);
+    output::put_many(space, n, bytes)
 }
 
 // The bytes are appended to those kept.
@@ -190,7 +269,7 @@ fn keep(state: &mut [u64; STATE_WORDS], kept: &mut [u8], bytes: &[u8]) -> Piece
         (now (kept .entry)) r (now (state .exit)) (now (kept .exit)) ⌝ }
 {
     let count = state[STORE_AT] as usize;
-    let n = output::put_bytes(kept, count, bytes);
+    let n = output::put_many(kept, count, bytes);
     state[STORE_AT] = n as u64;
     if n == 0 {
         return Piece {
@@ -247,7 +326,7 @@ fn hand_value(kept: &[u8], bytes: &[u8], start: usize, out: &mut [u8]) -> usize
 {
     if kept.len() <= start {
         let from = start - kept.len();
-        return output::put_bytes(out, 0, &bytes[from..]);
+        return output::put_many(out, 0, &bytes[from..]);
     }
     gather(&kept[start..], bytes, out)
 }

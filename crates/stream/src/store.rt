@@ -17,7 +17,7 @@ ghost use Rattle.stream.specs.Inner.{isOpen, KeptHead, Judged};
 // The bytes of the lent memory for a capsule that is kept.
 pub const KEPT_SIZE: usize = MAX_VALUE + HEAD_SIZE;
 
-// The largest number of a stream.
+// The first number that no stream holds.
 const NUMBER_LIMIT: u64 = 1 << 62;
 
 pub(crate) const SKIP_AT: usize = STORE_AT + 1;

@@ -1,5 +1,5 @@
 -- Answers without enums, as they cross to C: the number, and the values beside it.
-use Prim.Native.Nat.{ℕ, _*_}
+use Prim.Native.Nat.{ℕ, _*_, _≤_}
 use mathlib.Core.Path.{_≡_}
 use mathlib.Core.List.{List}
 use lib.Dec.{eqb}
@@ -12,6 +12,7 @@ use Rattle.varint.specs.Numbers.{encode, writeVerdict}
 use Rattle.varint.specs.declared.NumberRead.{NumberRead}
 use Rattle.varint.specs.declared.NumberRead.the-variants.{Whole, Cut}
 use Rattle.capsule.specs.declared.CapsuleRead.{CapsuleRead}
+use Rattle.capsule.specs.Results.{otherKind}
 use Rattle.state.specs.State.{stateWords}
 use Rattle.exchange.specs.Reading.{ReadsCapsule}
 use Rattle.exchange.specs.Writing.{Assigns, Advertises}
@@ -58,6 +59,13 @@ plainCall taken (Stopped r) = notHanded (numberOf r) taken
 
 abbrev pub plainPiece : Piece → PlainPiece
 plainPiece p = plainCall (p .taken) (p .call)
+
+-- a kind that is handed out is one of a known type, or that of a skipped one
+abbrev pub KnownKind : Call → Type 0
+KnownKind (Handed kind size) = kind ≤ otherKind
+KnownKind Between = Unit
+KnownKind Wait = Unit
+KnownKind (Stopped r) = Unit
 
 -- what crosses is the plain form of an answer of which P is promised
 pub record Plainly {A B : Type 0} (plain : A → B) (P : A → Type 0) (r : B) : Type 0 where

@@ -4,9 +4,11 @@ use state::STATE_WORDS;
 use stream::Call;
 use stream::KEPT_SIZE;
 use stream::Piece;
+ghost use Prim.Native.Nat.{_≤_};
 ghost use mathlib.Core.Path.{_≡_};
+ghost use Rattle.capsule.specs.Results.{otherKind};
 ghost use Rattle.stream.specs.Feeding.{keptSize};
-ghost use Rattle.tunnel_c.specs.Plain.{notHanded, plainPiece, FeedsPlainly};
+ghost use Rattle.tunnel_c.specs.Plain.{notHanded, plainPiece, KnownKind, FeedsPlainly};
 
 // What a call answers: with number 0 a capsule of a kind was handed out, or, where handed is 0, there was nothing to read; 1 is wait. The length is that
 // of a DATAGRAM's value, and taken says how many of the bytes were taken.
@@ -46,6 +48,7 @@ pub extern "C" fn whapirohi_feed(
 
 // A piece without its enum.
 fn plain_piece(piece: Piece) -> PlainPiece
+    requires { ⌜ KnownKind (piece .call) ⌝ }
     ensures { λ r. ⌜ r ≡ plainPiece piece ⌝ }
 {
     let taken = piece.taken as u64;
@@ -54,7 +57,7 @@ fn plain_piece(piece: Piece) -> PlainPiece
         Call::Handed { kind, length } => PlainPiece {
             number: 0,
             handed: 1,
-            kind,
+            kind: by_itself(kind),
             length: length as u64,
             taken,
         },
@@ -62,6 +65,18 @@ fn plain_piece(piece: Piece) -> PlainPiece
         Call::Wait => not_handed(1, taken),
         Call::Stopped(why) => not_handed(why.number() as u64, taken),
     }
+}
+
+// A kind, no larger than that of a skipped type. It is tested again so that the compiler loads it by itself: loaded together with the length, right after each was
+// stored alone, it would wait until both have reached the cache.
+fn by_itself(kind: u64) -> u64
+    requires { ⌜ kind ≤ otherKind ⌝ }
+    ensures { λ r. ⌜ r ≡ kind ⌝ }
+{
+    if capsule::OTHER_KIND < kind {
+        return capsule::OTHER_KIND;
+    }
+    kind
 }
 
 // No capsule was handed out.

@@ -4,17 +4,17 @@ use borrow.Author.Needs.{needs}
 use Rattle.stream.proofs.feeding.gather.Statement.{statement}
 use Rattle.stream.proofs.feeding.gather.Tie as tie
 
-put-bytes-requires : tie.Need-put-bytes-requires
-put-bytes-requires c κs = search needs
+put-many-requires : tie.Need-put-many-requires
+put-many-requires c κs = search needs
 
-put-bytes-requires-2 : tie.Need-put-bytes-requires-2
-put-bytes-requires-2 c κs = search needs
+put-many-requires-2 : tie.Need-put-many-requires-2
+put-many-requires-2 c κs = search needs
 
 same-length : tie.Need-same-length
 same-length c = search needs
 
 returns : tie.Need-returns
-returns c = put-then (c .before .before .before .before .before .before .put-bytes .ensures) (c .before .before .put-bytes2 .ensures)
+returns c = put-then (c .before .before .before .before .before .before .put-many .ensures) (c .before .before .put-many2 .ensures)
 
 pub gather-spec : {M : Type 1} → statement M
-gather-spec = tie.close (tie.spec put-bytes-requires put-bytes-requires-2 same-length returns)
+gather-spec = tie.close (tie.spec put-many-requires put-many-requires-2 same-length returns)

@@ -14,23 +14,23 @@ use Rattle.stream.proofs.feeding.hand_value.Tie as tie
 sub-from : tie.Need-sub-from
 sub-from c = search needs
 
-sub-put-bytes : tie.Need-sub-put-bytes
-sub-put-bytes c = search needs
+sub-put-many : tie.Need-sub-put-many
+sub-put-many c = search needs
 
-part-put-bytes-start : tie.Need-part-put-bytes-start
-part-put-bytes-start c = search needs
+part-put-many-start : tie.Need-part-put-many-start
+part-put-many-start c = search needs
 
-part-put-bytes-end : tie.Need-part-put-bytes-end
-part-put-bytes-end c = search needs
+part-put-many-end : tie.Need-part-put-many-end
+part-put-many-end c = search needs
 
-put-bytes-requires : tie.Need-put-bytes-requires
-put-bytes-requires c κs = search needs
+put-many-requires : tie.Need-put-many-requires
+put-many-requires c κs = search needs
 
 same-length : tie.Need-same-length
 same-length c = search needs
 
 returns : tie.Need-returns
-returns c = let s = c .before .before .before .before .before .before .before .before .before .args in put-as (Parts.tail (s .start - length (s .kept .now)) (s .bytes .now) ∙ value-given (s .kept .now) (s .bytes .now) (s .start) (c .before .before .before .before .before .if1 .taken)) (c .before .before .put-bytes .ensures)
+returns c = let s = c .before .before .before .before .before .before .before .before .before .args in put-as (Parts.tail (s .start - length (s .kept .now)) (s .bytes .now) ∙ value-given (s .kept .now) (s .bytes .now) (s .start) (c .before .before .before .before .before .if1 .taken)) (c .before .before .put-many .ensures)
 
 sub-gather : tie.Need-sub-gather
 sub-gather c = search needs
@@ -55,10 +55,10 @@ hand-value-spec =
     tie.close
     (tie.spec
     sub-from
-    sub-put-bytes
-    part-put-bytes-start
-    part-put-bytes-end
-    put-bytes-requires
+    sub-put-many
+    part-put-many-start
+    part-put-many-end
+    put-many-requires
     same-length
     returns
     sub-gather

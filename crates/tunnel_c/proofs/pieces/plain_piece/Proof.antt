@@ -1,12 +1,18 @@
 -- Each arm says what the call said. Assumes nothing.
+use Prim.Native.Nat.{ℕ}
 use mathlib.Core.Path.{sym, ap, _∙_}
+use Rattle.stream.specs.declared.feeding.Call.the-variants.{Handed}
 use Rattle.tunnel_c.specs.Plain.{notHanded, plainCall}
+use Rattle.tunnel_c.proofs.PlainLaws.{handed-known}
 use borrow.Author.Needs.{needs}
 use Rattle.tunnel_c.proofs.pieces.plain_piece.Statement.{statement}
 use Rattle.tunnel_c.proofs.pieces.plain_piece.Tie as tie
 
 enum-known-call : tie.Need-enum-known-call
 enum-known-call c = search needs
+
+by-itself-requires : tie.Need-by-itself-requires
+by-itself-requires c κs = handed-known (c .before .call .given .1) (c .before .before .before .pre)
 
 enum-told : tie.Need-enum-told
 enum-told c = search needs
@@ -33,7 +39,10 @@ not-handed-requires-3 : tie.Need-not-handed-requires-3
 not-handed-requires-3 c κs = search needs
 
 returns : tie.Need-returns
-returns c = ap (plainCall (c .before .before .before .args .piece .taken)) (sym (c .before .call .given .1))
+returns c =
+    let n = c .before .before .before .before .args .piece .taken in
+    let size = c .before .before .call .given .0 .1 .0 in
+    ap (λ (k : ℕ). plainCall n (Handed k size)) (c .by-itself .ensures) ∙ ap (plainCall n) (sym (c .before .before .call .given .1))
 
 returns-2 : tie.Need-returns-2
 returns-2 c = c .not-handed .ensures ∙ ap (plainCall (c .before .before .before .args .piece .taken)) (sym (c .before .enum-told .given .1))
@@ -51,6 +60,7 @@ plain-piece-spec =
     tie.close
     (tie.spec
     enum-known-call
+    by-itself-requires
     enum-told
     not-handed-requires
     enum-told-2
