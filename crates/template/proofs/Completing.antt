@@ -11,7 +11,7 @@ use Rattle.table.specs.Words.{templateOf, headOf}
 use Rattle.table.specs.declared.Head.{Head}
 use Rattle.table.specs.Templates.{staticSize}
 use Rattle.template.specs.Pieces.{weave}
-use Rattle.template.specs.Datagrams.{maxPacket, seeded, rebuilt}
+use Rattle.template.specs.Datagrams.{seeded, rebuilt}
 use Rattle.template.specs.Usable.{piecesOf, Seedable, Rebuildable, Weavable, Completable, Begins}
 use Rattle.template.proofs.PieceLaws.{length-weave}
 use Rattle.template.proofs.Steps.{sum-facts}
@@ -26,8 +26,8 @@ module _ (t v : List ℕ) where
   unfolding rebuilt templateOf
   rebuilt-sum e = rw e
 
-module _ (t v : List ℕ) (ready : Rebuildable t v) where
-  pub weavable : (out : List ℕ) → maxPacket ≤ length out → Weavable t v out
+module _ (t v : List ℕ) {n : ℕ} (ready : Rebuildable t v n) where
+  pub weavable : (out : List ℕ) → n ≤ length out → Weavable t v out
   weavable out h = record { usable = ready .usable; reach = reaches-end t v (ready .reach); room = omega (arith, ready .small) }
 
   module _ {out : List ℕ} {r : ℕ} (b : Begins (weave 0 (piecesOf t) v) out r) where
@@ -35,14 +35,14 @@ module _ (t v : List ℕ) (ready : Rebuildable t v) where
     size = b .size ∙ length-weave (piecesOf t) 0 v
 
     module _ {head : Head} (known : head ≡ headOf t) where
-      pub completable : maxPacket ≤ length out → head .checksum ≡ true → Completable (head .field) (head .start) r out
+      pub completable : n ≤ length out → head .checksum ≡ true → Completable (head .field) (head .start) r out
       completable h e =
           let f : headOf t .checksum ≡ true = rw known at e in
           rw known (record {
             order = sum-facts t (ready .usable .sound) f .order;
             inside = omega (arith, size, reaches-field t v (ready .reach) f);
             room = omega (arith, size, ready .small);
-            small = omega (arith, size, ready .small);
+            small = omega (arith, size, ready .small, ready .summable);
           })
 
       -- without a checksum

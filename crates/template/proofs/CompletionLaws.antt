@@ -10,10 +10,11 @@ use lib.Seq.{getD-drop}
 use borrow.Author.Tests.{le-leb, lt-leb}
 use Rattle.octets.proofs.Parts.{tail}
 use Rattle.inet.specs.Sum.{words, fold}
-use Rattle.inet.specs.Packet.{protocolByte, put16}
+use Rattle.inet.specs.Packet.{protocolByte, put16, lowered}
 use Rattle.inet.specs.Transport.{seed, setField, sent, finish, completion, fieldIs}
 use Rattle.inet.proofs.FieldLaws.{words-put, drop-put-from}
-use Rattle.inet.proofs.TransportLaws.{sent-udp, sent-other, sent-nonzero, setField-protocolByte}
+use Rattle.inet.proofs.LoweredLaws.{lowered-length}
+use Rattle.inet.proofs.TransportLaws.{sent-udp, sent-other, sent-nonzero, setField-protocolByte, lowered-fieldIs, lowered-completion}
 use Rattle.table.specs.Templates.{sumAt}
 use Rattle.template.specs.Fits.{fitsSum}
 use Rattle.template.specs.Usable.{SumPlace}
@@ -74,3 +75,8 @@ module _ (p : List ℕ) (field start : ℕ) where
 
   pub fitsSum-long : (v : ℕ) → field + 2 ≤ length p → v ≡ completion field start p → fitsSum (sumAt field start) p ≡ fieldIs field v p
   fitsSum-long v h e = rw (le-leb (field + 2) (length p) h, e)
+
+  -- lowering the packet changes nothing of it
+  pub fitsSum-lowered : SumPlace field start → fitsSum (sumAt field start) (lowered p) ≡ fitsSum (sumAt field start) p
+  fitsSum-lowered place =
+      rw (lowered-length p, lowered-completion p field start (omega arith) (place .order), lowered-fieldIs p field (completion field start p) (omega arith))

@@ -7,6 +7,7 @@ pub mod Sizes
 pub mod Shortening
 pub mod Weaving
 pub mod Completing
+pub mod FrontLaws
 pub mod OpenLaws
 pub mod ChosenLaws
 pub mod ChoiceLaws

@@ -2,11 +2,11 @@
 use Prim.Native.Nat.{ℕ, _+_, _-_, _≤_}
 use mathlib.Core.Path.{_≡_, refl, ap, sym, _∙_}
 use mathlib.Core.Logic.{_⊎_, ⊎-elim}
-use mathlib.Core.List.{List, [], _∷_, _++_}
+use mathlib.Core.List.{List, [], _∷_, _++_, append-assoc}
 use mathlib.Core.Bool.{Bool, true, _&&_}
 use native.Mathlib.Omega.{arith}
 use lib.ListN.{length, take, drop, take-append-drop, length-drop, length-take, length-append}
-use lib.Seq.{take-at, drop-at, drop-drop, length-take-le, take-set-le}
+use lib.Seq.{take-at, drop-at, drop-drop, length-take-le, take-set-le, take-append-le, drop-append-le}
 use lib.Dec.{leb, eqb}
 use borrow.Author.Tests.{leb-true, eqb-true}
 use Rattle.answer.proofs.Tests.{and-both}
@@ -94,6 +94,20 @@ length-strip-from (s ∷ ss) pos p a h =
 -- pieces that end in the packet take their bytes out of it
 pub length-strip : (ps : List Piece) (p : List ℕ) → Ascends 0 ps → lastEnd 0 ps ≤ length p → length (strip 0 ps p) + staticSize ps ≡ length p
 length-strip ps p a h = length-strip-from ps 0 p a (omega arith)
+
+strip-append-from : (ps : List Piece) (pos : ℕ) (a b : List ℕ) → Ascends pos ps → lastEnd pos ps ≤ pos + length a → strip pos ps (a ++ b) ≡ strip pos ps a ++ b
+unfolding strip Ascends
+strip-append-from [] pos a b up h = refl
+strip-append-from (s ∷ ss) pos a b up h =
+    let i : pos ≤ s .offset = up .0 in
+    let m = ascends-end ss (pieceEnd s) (up .1) in
+    let l = length-drop (pieceEnd s - pos) a in
+    rw (take-append-le (s .offset - pos) a b (omega arith), drop-append-le (pieceEnd s - pos) a b (omega arith), strip-append-from ss (pieceEnd s) (drop (pieceEnd s - pos) a) b (up .1) (omega arith))
+    (sym (append-assoc (take (s .offset - pos) a) (strip (pieceEnd s) ss (drop (pieceEnd s - pos) a)) b))
+
+-- what stands behind the last piece is left as it is
+pub strip-append : (ps : List Piece) (a b : List ℕ) → Ascends 0 ps → lastEnd 0 ps ≤ length a → strip 0 ps (a ++ b) ≡ strip 0 ps a ++ b
+strip-append ps a b up h = strip-append-from ps 0 a b up (omega arith)
 
 -- and never is more left than there was
 pub length-strip-most : (ps : List Piece) (pos : ℕ) (p : List ℕ) → length (strip pos ps p) ≤ length p

@@ -1,5 +1,5 @@
--- The loop of `shorten`: the gaps before the first j segments are written, up to `next`, and the image is read up to pos.
--- What is written and what is still to be stripped together never change. Assumes nothing.
+-- The loop of `shorten`: the gaps before the first j segments are written, up to `next`, and the front is read up to pos.
+-- What is written and what is still to be stripped together never change; the tail goes behind it as it is. Assumes nothing.
 use Prim.Native.Nat.{ℕ, _+_, _-_, _≤_, _<_}
 use mathlib.Core.Path.{_≡_, refl, sym, ap, _∙_}
 use mathlib.Core.List.{List, [], _++_, append-nil}
@@ -7,14 +7,14 @@ use native.Mathlib.Omega.{arith}
 use lib.ListN.{length, take, drop, length-drop}
 use lib.Seq.{take-all, length-take-le}
 use Rattle.output.specs.Places.{Put}
-use Rattle.output.proofs.Placing.{put-as, Putting, putting-none, putting-more, putting-done}
+use Rattle.output.proofs.Placing.{put-as, put-then, Putting, putting-none, putting-more, putting-done}
 use Rattle.table.specs.Templates.{Piece}
 use Rattle.table.specs.Sound.{Ascends}
 use Rattle.table.specs.Words.{segmentAt, headOf}
 use Rattle.table.specs.declared.Segment.{Segment}
 use Rattle.template.specs.Pieces.{strip, lastEnd}
 use Rattle.template.specs.Usable.{piecesOf, Shortenable}
-use Rattle.template.proofs.PieceLaws.{drop-from, ascends-end}
+use Rattle.template.proofs.PieceLaws.{drop-from, ascends-end, strip-append}
 use Rattle.template.proofs.Steps.{segmentEnd, piecesFrom, window-length, pieces-all, pieces-step, pieces-done}
 use Rattle.template.proofs.Sizes.{end-step, ascends-head, ascends-tail}
 
@@ -31,7 +31,7 @@ pub record Shortening (t p out₀ : List ℕ) (at : ℕ) (out : List ℕ) (pos n
   pub reach : lastEnd pos (piecesFrom t j (headOf t .count - j)) ≤ length p
   pub put : Putting (strip pos (piecesFrom t j (headOf t .count - j)) (drop pos p)) (strip 0 (piecesOf t) p) at out₀ next out
 
-module _ (t p out₀ : List ℕ) (at : ℕ) (ready : Shortenable t p out₀ at) where
+module _ (t p tail out₀ : List ℕ) (at : ℕ) (ready : Shortenable t p tail out₀ at) where
   pub shortening-none : Shortening t p out₀ at out₀ 0 at 0
   shortening-none =
       record {
@@ -76,11 +76,21 @@ module _ (t p out₀ : List ℕ) (at : ℕ) (ready : Shortenable t p out₀ at) 
             put = putting-more (i .put) next-left w;
           }
 
-    pub shortening-done : {out′ : List ℕ} {r : ℕ} → headOf t .count ≤ j → Put (take (length p - pos) (drop pos p)) next out r out′
-        → Put (strip 0 (piecesOf t) p) at out₀ r out′
-    unfolding strip
-    shortening-done h w =
-        let all : take (length p - pos) (drop pos p) ≡ drop pos p = take-all (length p - pos) (drop pos p) (omega (arith, length-drop pos p)) in
-        let left : strip pos (piecesFrom t j (headOf t .count - j)) (drop pos p) ≡ drop pos p ++ [] =
-        ap (λ (l : List Piece). strip pos l (drop pos p)) (pieces-done t j (headOf t .count) h) ∙ sym (append-nil (drop pos p))
-        in putting-done (putting-more (i .put) left (put-as all w)) refl
+    -- the rest of the front is written
+    module _ {out′ : List ℕ} {r : ℕ} (h : headOf t .count ≤ j) (w : Put (take (length p - pos) (drop pos p)) next out r out′) where
+      all : take (length p - pos) (drop pos p) ≡ drop pos p
+      all = take-all (length p - pos) (drop pos p) (omega (arith, length-drop pos p))
+
+      front-done : Put (strip 0 (piecesOf t) p) at out₀ r out′
+      unfolding strip
+      front-done =
+          let left : strip pos (piecesFrom t j (headOf t .count - j)) (drop pos p) ≡ drop pos p ++ [] =
+          ap (λ (l : List Piece). strip pos l (drop pos p)) (pieces-done t j (headOf t .count) h) ∙ sym (append-nil (drop pos p))
+          in putting-done (putting-more (i .put) left (put-as all w)) refl
+
+      pub tail-room : r + length tail ≤ length out′
+      tail-room = omega (arith, w .place, ap length all, length-drop pos p, i .behind, i .inside, ready .room, w .kept, shortening-same)
+
+      pub shortening-done : {out″ : List ℕ} {r′ : ℕ} → Put tail r out′ r′ out″ → Put (strip 0 (piecesOf t) (p ++ tail)) at out₀ r′ out″
+      shortening-done x =
+          put-as (sym (strip-append (piecesOf t) p tail (ready .usable .sound .ascends) (ready .inside))) (put-then front-done x)

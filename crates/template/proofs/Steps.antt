@@ -11,10 +11,11 @@ use lib.Dec.{eqb}
 use borrow.Author.Tests.{le-leb, lt-leb, eq-eqb, ne-eqb}
 use Rattle.octets.specs.Scan.{from}
 use Rattle.octets.proofs.Scans.{from-more, from-end, length-from}
-use Rattle.table.specs.Sound.{SumFacts, SoundTemplate}
+use Rattle.table.specs.Sound.{SumFacts, SoundTemplate, UsableTemplate, Usable}
 use Rattle.table.specs.Templates.{Piece, sumAt}
 use Rattle.table.specs.Limits.{maxTemplates}
-use Rattle.table.specs.Words.{templateWords, tableWords, window, pieceOf, segmentAt, templateOf, wordsAt, byteAt, headOf}
+use Rattle.table.specs.Words.{templateWords, tableWords, window, pieceOf, segmentAt, templateOf, countIn, wordsAt, byteAt, headOf}
+use Rattle.table.proofs.Judging.{words-at}
 use Rattle.table.proofs.InTurn.{templatesFrom, templates-step, templates-done}
 use Rattle.template.specs.Pieces.{begins, fitsPieces}
 use Rattle.template.specs.Fits.{fitsSum, fits, full, short, firstFit, withId, listed, missing}
@@ -111,6 +112,10 @@ wordsFrom w i = take (1 + i * templateWords + templateWords - (1 + i * templateW
 -- it is all there
 pub words-length : (w : List ℕ) (i : ℕ) → tableWords ≤ length w → i < maxTemplates → templateWords ≤ length (wordsFrom w i)
 words-length w i h k = simp (length-take, length-drop) (omega arith)
+
+-- and usable, in a usable table
+pub words-usable : (w : List ℕ) (i : ℕ) → Usable w → i < countIn w → UsableTemplate (wordsFrom w i)
+words-usable w i u h = rw (words-at w i) (u .all i h)
 
 -- the search for a template that fits
 module _ (w : List ℕ) (p : List ℕ) (i n : ℕ) where

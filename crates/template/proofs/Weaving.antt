@@ -87,14 +87,18 @@ module _ (t : List ℕ) (v out₀ : List ℕ) (ready : Weavable t v out₀) wher
                 (i .front);
           }
 
-    pub last-room : headOf t .count ≤ j → pos + (length v - at) ≤ length out
-    last-room h = omega (arith, i .total, i .same, ready .room, static-done t j (headOf t .count) h)
+    -- `&v[at..]`
+    last-piece : take (length v - at) (drop at v) ≡ drop at v
+    last-piece = take-all (length v - at) (drop at v) (omega (arith, length-drop at v))
+
+    pub last-room : headOf t .count ≤ j → pos + length (take (length v - at) (drop at v)) ≤ length out
+    last-room h =
+        omega (arith, i .total, i .same, ready .room, static-done t j (headOf t .count) h, ap length last-piece, length-drop at v)
 
     pub weaving-done : {out′ : List ℕ} {r : ℕ} → headOf t .count ≤ j → Put (take (length v - at) (drop at v)) pos out r out′ → Begins (weave 0 (piecesOf t) v) out′ r
     unfolding weave
     weaving-done {out′} {r} h w =
-        let all : take (length v - at) (drop at v) ≡ drop at v = take-all (length v - at) (drop at v) (omega (arith, length-drop at v)) in
         record {
-          size = sym (length-weave (piecesOf t) 0 v ∙ omega (arith, i .total, static-done t j (headOf t .count) h, w .place, ap length all, length-drop at v));
-          front = w .front ∙ rw all (rw (pieces-done t j (headOf t .count) h) at (i .front));
+          size = sym (length-weave (piecesOf t) 0 v ∙ omega (arith, i .total, static-done t j (headOf t .count) h, w .place, ap length last-piece, length-drop at v));
+          front = w .front ∙ rw last-piece (rw (pieces-done t j (headOf t .count) h) at (i .front));
         }

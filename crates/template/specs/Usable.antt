@@ -4,7 +4,7 @@ use mathlib.Core.Path.{_≡_}
 use mathlib.Core.Bool.{true}
 use mathlib.Core.List.{List}
 use lib.ListN.{length, take}
-use Rattle.inet.specs.Packet.{Form}
+use Rattle.inet.specs.Packet.{Form, lowered}
 use Rattle.table.specs.Limits.{staticLimit}
 use Rattle.table.specs.Templates.{Piece, staticSize}
 use Rattle.table.specs.Words.{templateOf, countIn, wordsAt}
@@ -13,7 +13,7 @@ use Rattle.template.specs.declared.Found.{Found}
 use Rattle.template.specs.declared.Found.the-variants.{At, Nothing}
 use Rattle.template.specs.Pieces.{lastEnd}
 use Rattle.template.specs.Fits.{Choice, full, short, Lookup, missing, listed}
-use Rattle.template.specs.Datagrams.{maxPacket, sumEnd, reaches}
+use Rattle.template.specs.Datagrams.{sumEnd, reaches}
 
 -- ---- the search
 
@@ -54,6 +54,11 @@ pub record Testable (p : List ℕ) : Type 0 where
   pub good : Form p
   pub small : length p ≤ 65535
 
+-- the front of a packet as it goes on: the bytes that templates look at
+pub record Fronted (front p : List ℕ) : Type 0 where
+  pub testable : Testable p
+  pub bytes : front ≡ take staticLimit (lowered p)
+
 -- the field lies in the packet
 pub record Seedable (t p : List ℕ) : Type 0 where
   pub usable : UsableTemplate t
@@ -65,17 +70,18 @@ pub record Seedable (t p : List ℕ) : Type 0 where
 abbrev pub piecesOf : List ℕ → List Piece
 piecesOf t = templateOf t .pieces
 
--- the segments end in the image, and behind `at` is room for it
-pub record Shortenable (t image out : List ℕ) (at : ℕ) : Type 0 where
+-- the segments end in the front, and behind `at` is room for it and the tail
+pub record Shortenable (t front tail out : List ℕ) (at : ℕ) : Type 0 where
   pub usable : UsableTemplate t
-  pub inside : lastEnd 0 (piecesOf t) ≤ length image
-  pub room : at + length image ≤ length out
+  pub inside : lastEnd 0 (piecesOf t) ≤ length front
+  pub room : at + length front + length tail ≤ length out
 
--- the bytes reach, and the packet is within the limit
-pub record Rebuildable (t v : List ℕ) : Type 0 where
+-- the bytes reach, and the packet fits an image of n bytes, of which a sum can be made
+pub record Rebuildable (t v : List ℕ) (n : ℕ) : Type 0 where
   pub usable : UsableTemplate t
   pub reach : reaches (templateOf t) v ≡ true
-  pub small : staticSize (piecesOf t) + length v ≤ maxPacket
+  pub small : staticSize (piecesOf t) + length v ≤ n
+  pub summable : n ≤ 65535
 
 -- the bytes reach the last segment's end, and there is room for the packet
 pub record Weavable (t v out : List ℕ) : Type 0 where

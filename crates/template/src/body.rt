@@ -1,6 +1,7 @@
 // The bytes of a packet outside a template's segments, and the packet rebuilt from them.
 ghost use mathlib.Core.Path.{_≡_};
 ghost use Prim.Native.Nat.{_+_, _-_, _≤_, _<_};
+ghost use mathlib.Core.List.{_++_};
 ghost use lib.ListN.{length, take, drop};
 ghost use Rattle.output.specs.Places.{Put};
 ghost use Rattle.table.specs.Limits.{staticLimit};
@@ -11,33 +12,34 @@ ghost use Rattle.template.specs.Pieces.{strip, weave, lastEnd};
 ghost use Rattle.template.specs.Datagrams.{rebuilt, reaches};
 ghost use Rattle.template.specs.Usable.{piecesOf, Shortenable, Rebuildable, Weavable, Completable, Begins};
 ghost use Rattle.inet.specs.Transport.{setField, finish};
-use super::MAX_PACKET;
 use inet::field::put_word;
 use inet::transport::finish;
 use output::put_bytes;
+use output::put_many;
 use table::byte_at;
-use table::head_of;
+use table::judged_head;
 use table::segment_at;
 use table::static_size;
 
-// Writes the image's bytes outside the segments to out from the place at on, and returns the place behind them.
-pub fn shorten(t: &[u64], image: &[u8], out: &mut [u8], at: usize) -> usize
+// Writes the bytes outside the segments of a packet, whose front has all segments, to out from the place at on, and returns the place behind them.
+pub fn shorten(t: &[u64], front: &[u8], tail: &[u8], out: &mut [u8], at: usize) -> usize
     requires { ⌜ templateWords ≤ length (now t) ⌝ }
-    requires { ⌜ Shortenable (now t) (now image) (now out) at ⌝ }
-    ensures { λ r. ⌜ Put (strip 0 (piecesOf (now (t .entry))) (now (image .entry))) at (now (out .entry)) r (now (out .exit)) ⌝ }
+    requires { ⌜ Shortenable (now t) (now front) (now tail) (now out) at ⌝ }
+    ensures { λ r. ⌜ Put (strip 0 (piecesOf (now (t .entry))) (now (front .entry) ++ now (tail .entry))) at (now (out .entry)) r (now (out .exit)) ⌝ }
 {
-    let n = head_of(t).count;
+    let n = judged_head(t).count;
     let mut pos: usize = 0;
     let mut next = at;
     let mut j: usize = 0;
     while j < n {
         let s = segment_at(t, j);
         let off = s.offset;
-        next = copy_range(image, pos, off, out, next);
+        next = copy_range(front, pos, off, out, next);
         pos = off + s.length;
         j += 1;
     }
-    copy_range(image, pos, image.len(), out, next)
+    let end = copy_range(front, pos, front.len(), out, next);
+    put_many(out, end, tail)
 }
 
 // Copies src[from..to] to out from the place at on, and returns the place behind it.
@@ -58,7 +60,7 @@ pub fn reaches(t: &[u64], body: &[u8]) -> bool
     if n < last_end(t) {
         return false;
     }
-    let head = head_of(t);
+    let head = judged_head(t);
     if head.checksum {
         return head.field + 2 <= n;
     }
@@ -80,7 +82,7 @@ fn last_end(t: &[u64]) -> usize
     requires { ⌜ UsableTemplate (now t) ⌝ }
     ensures { λ r. ⌜ r ≡ lastEnd 0 (piecesOf (now (t .entry))) ⌝ }
 {
-    let n = head_of(t).count;
+    let n = judged_head(t).count;
     if n == 0 {
         return 0;
     }
@@ -89,13 +91,13 @@ fn last_end(t: &[u64]) -> usize
 }
 
 // Builds the packet at the front of image, completes its sum, and returns its length.
-pub fn rebuild(t: &[u64], body: &[u8], image: &mut [u8; MAX_PACKET]) -> usize
+pub fn rebuild(t: &[u64], body: &[u8], image: &mut [u8]) -> usize
     requires { ⌜ templateWords ≤ length (now t) ⌝ }
-    requires { ⌜ Rebuildable (now t) (now body) ⌝ }
+    requires { ⌜ Rebuildable (now t) (now body) (length (now image)) ⌝ }
     ensures { λ r. ⌜ Begins (rebuilt (templateOf (now (t .entry))) (now (body .entry))) (now (image .exit)) r ⌝ }
 {
     let n = weave_into(t, body, image);
-    let head = head_of(t);
+    let head = judged_head(t);
     if head.checksum {
         complete(image, n, head.field, head.start);
     }
@@ -111,13 +113,14 @@ fn complete(image: &mut [u8], n: usize, field: usize, start: usize)
     put_word(image, field, sum);
 }
 
-// Puts the segments' bytes and the others together. Both stand at their places: pos is the end of what is written.
+// Puts the segments' bytes and the others together. Both stand at their places: pos is the end of what is written. The last piece is put by a loop of small stores,
+// though it may be long: it is summed at once, and what `memmove` wrote in large ones could not be loaded before it has reached the cache.
 fn weave_into(t: &[u64], body: &[u8], image: &mut [u8]) -> usize
     requires { ⌜ templateWords ≤ length (now t) ⌝ }
     requires { ⌜ Weavable (now t) (now body) (now image) ⌝ }
     ensures { λ r. ⌜ Begins (weave 0 (piecesOf (now (t .entry))) (now (body .entry))) (now (image .exit)) r ⌝ }
 {
-    let n = head_of(t).count;
+    let n = judged_head(t).count;
     let mut pos: usize = 0;
     let mut at: usize = 0;
     let mut j: usize = 0;
@@ -132,7 +135,7 @@ fn weave_into(t: &[u64], body: &[u8], image: &mut [u8]) -> usize
         at = to;
         j += 1;
     }
-    copy_range(body, at, body.len(), image, pos)
+    put_bytes(image, pos, &body[at..])
 }
 
 // Puts the static bytes of the positions from..to of a template at their places in image.

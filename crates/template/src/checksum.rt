@@ -1,8 +1,10 @@
 // The checksum of a template: whether a packet's own is the right one, and the seed in its place.
 ghost use mathlib.Core.Path.{_≡_};
 ghost use Prim.Native.Nat.{_≤_, _<_, _+_};
-ghost use lib.ListN.{length};
+ghost use lib.ListN.{length, take};
+ghost use Rattle.inet.specs.Packet.{lowered};
 ghost use Rattle.inet.specs.Transport.{completion};
+ghost use Rattle.table.specs.Limits.{staticLimit};
 ghost use Rattle.table.specs.Templates.{sumAt};
 ghost use Rattle.table.specs.Words.{templateWords, templateOf};
 ghost use Rattle.template.specs.Fits.{fitsSum};
@@ -16,7 +18,7 @@ use inet::sum::folded;
 use inet::sum::sum_words;
 use inet::sum::word;
 use inet::transport::seed;
-use table::head_of;
+use table::judged_head;
 
 // Whether the field lies in the packet and holds the right checksum.
 pub(crate) fn sum_fits(packet: &[u8], field: usize, start: usize) -> bool
@@ -31,16 +33,16 @@ pub(crate) fn sum_fits(packet: &[u8], field: usize, start: usize) -> bool
     field_is(packet, field, v)
 }
 
-// Puts the seed into the field of a template, where it has a checksum.
-pub fn put_seed(t: &[u64], image: &mut [u8])
+// Puts the seed of a packet into the field of a template, where it has a checksum: the field lies in the packet's front.
+pub fn put_seed(t: &[u64], packet: &[u8], front: &mut [u8])
     requires { ⌜ templateWords ≤ length (now t) ⌝ }
-    requires { ⌜ Seedable (now t) (now image) ⌝ }
-    ensures { λ _. ⌜ now (image .exit) ≡ seeded (templateOf (now (t .entry)) .sum) (now (image .entry)) ⌝ }
+    requires { ⌜ (Seedable (now t) (now packet)) × (now front ≡ take staticLimit (lowered (now packet))) ⌝ }
+    ensures { λ _. ⌜ now (front .exit) ≡ take staticLimit (seeded (templateOf (now (t .entry)) .sum) (lowered (now (packet .entry)))) ⌝ }
 {
-    let head = head_of(t);
+    let head = judged_head(t);
     if head.checksum {
-        let first = seed(image, head.start);
-        put_word(image, head.field, first);
+        let first = seed(packet, head.start);
+        put_word(front, head.field, first);
     }
 }
 

@@ -2,24 +2,26 @@
 ghost use mathlib.Core.Path.{_≡_};
 ghost use Prim.Native.Nat.{_≤_};
 ghost use lib.ListN.{length};
+ghost use Rattle.inet.specs.Packet.{lowered};
 ghost use Rattle.table.specs.Words.{tableWords, countIn, templatesOf};
 ghost use Rattle.table.specs.Sound.{Usable};
 ghost use Rattle.template.specs.Fits.{firstFit, withId};
-ghost use Rattle.template.specs.Usable.{Testable, Chosen, Listed};
+ghost use Rattle.template.specs.Usable.{Fronted, Chosen, Listed};
 use super::Found;
 use super::checksum::sum_fits;
 use table::ContextId;
 use table::TEMPLATE_WORDS;
 use table::byte_at;
-use table::head_of;
+use table::judged_head;
 use table::segment_at;
 
-// The first template that fits the packet: of ascending Context IDs the lowest. The search stops there.
-pub fn find(table: &[u64], packet: &[u8]) -> Found
+// The first template that fits the packet as it goes on: of ascending Context IDs the lowest. The search stops there. Segments are compared with
+// the front; lowering changes no byte that the checksum counts, so that is tested of the packet as it came.
+pub fn find(table: &[u64], front: &[u8], packet: &[u8]) -> Found
     requires { ⌜ tableWords ≤ length (now table) ⌝ }
     requires { ⌜ Usable (now table) ⌝ }
-    requires { ⌜ Testable (now packet) ⌝ }
-    ensures { λ r. ⌜ Chosen (now (table .entry)) (firstFit (templatesOf (now (table .entry))) (now (packet .entry))) r ⌝ }
+    requires { ⌜ Fronted (now front) (now packet) ⌝ }
+    ensures { λ r. ⌜ Chosen (now (table .entry)) (firstFit (templatesOf (now (table .entry))) (lowered (now (packet .entry)))) r ⌝ }
 {
     let count = count_of(table);
     let mut answer = Found::Nothing;
@@ -30,7 +32,7 @@ pub fn find(table: &[u64], packet: &[u8]) -> Found
         let from = 1 + i * TEMPLATE_WORDS;
         let end = from + TEMPLATE_WORDS;
         let t = &table[from..end];
-        let head = head_of(t);
+        let head = judged_head(t);
         let n = head.count;
         let mut j: usize = 0;
         'segments: while j < n {
@@ -41,7 +43,7 @@ pub fn find(table: &[u64], packet: &[u8]) -> Found
                 continue 'templates;
             }
             'bytes: while k < stop {
-                if packet[k] != byte_at(t, k) {
+                if front[k] != byte_at(t, k) {
                     continue 'templates;
                 }
                 k += 1;
@@ -71,7 +73,7 @@ pub fn find_id(table: &[u64], id: ContextId) -> Found
     while i < count {
         let from = 1 + i * TEMPLATE_WORDS;
         let end = from + TEMPLATE_WORDS;
-        let head = head_of(&table[from..end]);
+        let head = judged_head(&table[from..end]);
         let own = head.id;
         if own.0 == wanted {
             return Found::At(i);

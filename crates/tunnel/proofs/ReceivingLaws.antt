@@ -1,25 +1,22 @@
--- What the verdict on receiving says, both ways, and the limit of what is received. Assumes nothing.
+-- What the verdict on receiving says, both ways. Assumes nothing.
 use Prim.Native.Nat.{ℕ, _≤_}
 use mathlib.Core.Path.{_≡_, refl, ap, _∙_}
-use mathlib.Core.Bool.{Bool, true, false, not}
+use mathlib.Core.Bool.{Bool, true, not}
 use mathlib.Core.List.{List}
 use native.Mathlib.Omega.{arith}
-use borrow.Author.Tests.{ltb-false, le-ltb, leb-true, not-false}
-use lib.Dec.{ltb, leb}
-use lib.ListN.{length}
+use borrow.Author.Tests.{ltb-false, le-ltb, not-false}
+use lib.Dec.{ltb}
 use Rattle.answer.specs.declared.Refusal.{Refusal}
-use Rattle.answer.specs.declared.Refusal.the-variants.{BrokenState, BadForm, NotGranted, NoRoom, PacketTooLong, CutDatagram}
+use Rattle.answer.specs.declared.Refusal.the-variants.{BrokenState, BadForm, NotGranted, NoRoom}
 use Rattle.answer.specs.declared.Verdict.{Verdict}
 use Rattle.answer.specs.declared.Verdict.the-variants.{Go, Stop}
-use Rattle.answer.specs.Choice.{pick}
 use Rattle.answer.specs.Verdict.{firstOf, _then_}
 use Rattle.answer.proofs.Tables.{go-test, go-rest, then-first, then-second}
 use Rattle.inet.specs.Packet.{form}
 use Rattle.policy.specs.declared.Flow.{Flow}
 use Rattle.policy.specs.Granted.{flowOf, passes}
 use Rattle.state.specs.State.{State, soundState, receivingGranted}
-use Rattle.template.specs.Fits.{Lookup, missing, listed}
-use Rattle.template.specs.Datagrams.{maxPacket, rebuilt, reaches, Opened, refused, packet, withinLimit, openShort, opened}
+use Rattle.template.specs.Datagrams.{Opened, refused, packet, opened}
 use Rattle.tunnel.specs.Tunnel.{receiveRoom, receiveTests, packetTests, openedVerdict, openedBytes, receiveVerdict, receivedBytes}
 
 -- the state is sound, and there is room
@@ -106,26 +103,3 @@ module _ (s : State) (d : List ℕ) (n : ℕ) where
 pub received-packet : (s : State) (d q : List ℕ) → opened (s .templates) d ≡ packet q → receivedBytes s d ≡ q
 unfolding receivedBytes
 received-packet s d q e = ap openedBytes e
-
--- ---- no short form stands for a packet over the limit
-
-refused-not : {r : Refusal} {q : List ℕ} → refused r ≡ packet q → ⊥
-refused-not e = let z : _≡_ {A = ℕ} 0 1 = cc in omega arith
-
-packet-same : {p q : List ℕ} → packet p ≡ packet q → p ≡ q
-packet-same e = cc
-
-within-most : (v q : List ℕ) → withinLimit v ≡ packet q → length q ≤ maxPacket
-within-most v q h = go (leb (length v) maxPacket) refl h
-  where
-    go : (b : Bool) → leb (length v) maxPacket ≡ b → pick b (packet v) (refused PacketTooLong) ≡ packet q → length q ≤ maxPacket
-    go true e f = let l = leb-true (length v) maxPacket e in omega (arith, ap length (packet-same f))
-    go false e f = absurd (refused-not f)
-
-pub short-most : (v q : List ℕ) (c : Lookup) → openShort v c ≡ packet q → length q ≤ maxPacket
-short-most v q missing h = absurd (refused-not h)
-short-most v q (listed t) h = go (reaches t v) h
-  where
-    go : (b : Bool) → pick b (withinLimit (rebuilt t v)) (refused CutDatagram) ≡ packet q → length q ≤ maxPacket
-    go true f = within-most (rebuilt t v) q f
-    go false f = absurd (refused-not f)

@@ -1,23 +1,27 @@
 -- What the steps of sending write, one behind the other, and what each lets the next one ask for. Assumes nothing.
-use Prim.Native.Nat.{ℕ, _+_, _≤_, _<_}
-use mathlib.Core.Path.{_≡_, sym, ap, _∙_}
+use Prim.Native.Nat.{ℕ, zero, suc, _+_, _-_, _≤_, _<_, min}
+use mathlib.Core.Path.{_≡_, refl, sym, ap, _∙_}
 use mathlib.Core.List.{List, [], _∷_, _++_}
 use native.Mathlib.Omega.{arith}
-use lib.ListN.{length, take, drop}
-use lib.Seq.{take-at}
+use lib.ListN.{length, take, drop, set, length-set, length-take}
+use lib.Seq.{take-at, length-take-le}
+use borrow.Rule.Slice.PartMut.{putMid}
 use Rattle.answer.specs.declared.Answer.the-variants.{Done, Refused}
 use Rattle.answer.specs.declared.Refusal.{Refusal}
 use Rattle.answer.specs.declared.Verdict.{Verdict}
 use Rattle.answer.specs.declared.Verdict.the-variants.{Go, Stop}
 use Rattle.answer.specs.Verdict.{Writes}
 use Rattle.output.specs.Places.{Put}
-use Rattle.output.proofs.Placing.{put-then, put-as, put-front}
+use Rattle.output.proofs.Placing.{put-then, put-set, put-as, put-back, put-front, lent}
 use Rattle.varint.specs.Numbers.{limit, room, encode, encodedSize}
 use Rattle.varint.proofs.Encoding.{length-encode, size-bounds}
-use Rattle.inet.specs.Packet.{lowered}
+use Rattle.inet.specs.Packet.{hopsOf, lowered, Lowerable}
 use Rattle.inet.proofs.FormFacts.{form-facts}
-use Rattle.inet.proofs.LoweredLaws.{lowered-length, lowered-Form}
+use Rattle.inet.proofs.LoweredLaws.{lowered-length}
+use Rattle.inet.proofs.FrontLaws.{take-hopsOf, take-headed, take-lowered}
 use Rattle.octets.specs.Parts.{part}
+use Rattle.octets.proofs.Parts.{tail}
+use Rattle.table.specs.Limits.{staticLimit}
 use Rattle.table.specs.declared.Head.{Head}
 use Rattle.table.specs.Words.{tableWords, headOf, templateOf, countIn, wordsAt, templatesOf}
 use Rattle.table.specs.Sound.{UsableTemplate}
@@ -29,19 +33,27 @@ use Rattle.template.specs.declared.Found.the-variants.{At, Nothing}
 use Rattle.template.specs.Pieces.{strip}
 use Rattle.template.specs.Fits.{Choice, full, firstFit}
 use Rattle.template.specs.Datagrams.{seeded, shortForm, fullForm, datagram}
-use Rattle.template.specs.Usable.{Chosen, Seedable, Shortenable, piecesOf}
+use Rattle.template.specs.Usable.{Chosen, Testable, Fronted, Seedable, Shortenable, piecesOf}
 use Rattle.table.proofs.InTurn.{templates-all}
 use Rattle.template.proofs.Steps.{find-done}
+use Rattle.template.proofs.FrontLaws.{front-length, front-whole}
 use Rattle.template.proofs.ChosenLaws.{chosen-full, chosen-short, chosen-fits, chosen-usable, fits-seedable, fits-shortenable}
 use Rattle.tunnel.specs.Tunnel.{sentBytes}
-use Rattle.tunnel.specs.Sending.{Sendable, Puttable, Shortable}
+use Rattle.tunnel.specs.Sending.{Sendable, Shortable}
 use Rattle.tunnel.proofs.SendingLaws.{SendGo}
 
 -- ---- the full form
 
-pub put-full : {p a b c : List ℕ} {at r : ℕ} → Put (0 ∷ []) 0 a at b → Put p at b r c → Put (fullForm p) 0 a r c
+full-then : {p a b c : List ℕ} {at r : ℕ} → Put (0 ∷ []) 0 a at b → Put p at b r c → Put (fullForm p) 0 a r c
 unfolding fullForm encode
-put-full f g = put-then f g
+full-then f g = put-then f g
+
+-- a zero, and behind it the packet lowered where it goes: `&mut out[1..]` comes back as b
+pub put-plain : (p out : List ℕ) → 1 + length p ≤ length out → {b : List ℕ} → b ≡ lowered p ++ drop (length p) (lent 1 (set out 0 0))
+    → Put (fullForm (lowered p)) 0 out (1 + length p) (putMid 1 (length (set out 0 0) - 1) (set out 0 0) b)
+put-plain p out h f =
+    full-then (put-set 0 0 out (omega arith))
+    (put-back (lowered p) 1 (length p) (set out 0 0) (sym (lowered-length p)) (omega (arith, length-set out 0 0)) f)
 
 -- ---- the short form
 
@@ -50,23 +62,32 @@ pub id-below : (t : List ℕ) {h : Head} → h ≡ headOf t → UsableTemplate t
 unfolding templateOf
 id-below t k u = rw k (u .sound .below)
 
-module _ (t p out : List ℕ) (s : Shortable t p out) where
+-- `&packet[n..]`, where n is the length of a list as long as the front
+pub behind : (p front q : List ℕ) → length q ≡ length front → take (length p - length q) (drop (length q) p) ≡ drop (length front) p
+behind p front q e = tail (length q) p ∙ ap (λ (n : ℕ). drop n p) e
+
+module _ (t front p out : List ℕ) (s : Shortable t front p out) where
   pub id-room : (id : ℕ) → 0 + encodedSize id ≤ length out
   id-room id = omega (arith, size-bounds id .1, s .space)
 
   pub short-seedable : Seedable t p
   short-seedable = fits-seedable t p (s .usable) (s .fit) (s .testable)
 
-  module _ {h : Head} {q out₁ : List ℕ} {at : ℕ} (k : h ≡ headOf t) (w : Put (encode (h .id .0)) 0 out at out₁) (e : q ≡ seeded (templateOf t .sum) p) where
-    pub short-shortenable : Shortenable t q out₁ at
+  pub front-inside : length front ≤ length p
+  front-inside = omega (arith, front-length p (s .bytes))
+
+  module _ {h : Head} {q out₁ : List ℕ} {at : ℕ} (k : h ≡ headOf t) (w : Put (encode (h .id .0)) 0 out at out₁) (e : q ≡ take staticLimit (seeded (templateOf t .sum) (lowered p))) {rest : List ℕ} (g : rest ≡ drop (length front) p) where
+    pub short-shortenable : Shortenable t q rest out₁ at
     short-shortenable =
         let m : at ≤ room = omega (arith, w .place, length-encode (h .id .0), size-bounds (h .id .0) .1) in
         let r : at + length p ≤ length out₁ = omega (arith, s .space, w .kept) in
-        rw e (fits-shortenable t p (s .usable) (s .fit) out₁ at r)
+        rw g (fits-shortenable t p (s .usable) (s .fit) (s .bytes) e r)
 
-    pub put-short : {out₂ : List ℕ} {r : ℕ} → Put (strip 0 (piecesOf t) q) at out₁ r out₂ → Put (shortForm (templateOf t) p) 0 out r out₂
+    pub put-short : {out₂ : List ℕ} {r : ℕ} → Put (strip 0 (piecesOf t) (q ++ rest)) at out₁ r out₂ → Put (shortForm (templateOf t) (lowered p)) 0 out r out₂
     unfolding shortForm templateOf
-    put-short f = put-then (put-as (ap (λ (x : Head). encode (x .id .0)) k) w) (put-as (ap (strip 0 (piecesOf t)) e) f)
+    put-short f =
+        let whole : q ++ rest ≡ seeded (templateOf t .sum) (lowered p) = ap (λ (l : List ℕ). q ++ l) g ∙ front-whole p (s .bytes) (templateOf t .sum) (piecesOf t) (s .usable .sound .summed) e in
+        put-then (put-as (ap (λ (x : Head). encode (x .id .0)) k) w) (put-as (ap (strip 0 (piecesOf t)) whole) f)
 
 -- ---- the form that is chosen
 
@@ -87,44 +108,74 @@ module _ (w p out : List ℕ) where
 
   -- t is the words of the template, as they are cut out
   module _ (i : ℕ) {t : List ℕ} (c : Chosen w (firstFit (templatesOf w) p) (At i)) (e : t ≡ wordsAt w i) where
-    pub chosen-shortable : Puttable w p out → Shortable t p out
-    chosen-shortable u =
-        rw e (record { usable = chosen-usable w p i c (u .usable); testable = u .testable; fit = chosen-fits w p i c; space = u .space })
-
     pub datagram-short : {after : List ℕ} {n : ℕ} → Put (shortForm (templateOf t) p) 0 out n after
         → Put (datagram (templatesOf w) p) 0 out n after
     unfolding shortForm
     datagram-short f = put-as (ap (λ (l : List ℕ). shortForm (templateOf l) p) e ∙ sym (chosen-short w p i c)) f
 
--- ---- the packet lowered in the image
+-- ---- the front of the packet, lowered
 
-module _ (p image : List ℕ) {after : List ℕ} (e : after ≡ lowered p ++ drop (length p) image) where
-  pub front-lowered : take (length p) after ≡ lowered p
-  front-lowered = ap (take (length p)) e ∙ take-at (lowered p) (drop (length p) image) (length p) (lowered-length p)
+-- as many as there are of the first n elements
+take-taken : (n : ℕ) (l : List ℕ) → take (length (take n l)) l ≡ take n l
+take-taken zero l = refl
+take-taken (suc n) [] = refl
+take-taken (suc n) (x ∷ l) = ap (λ (r : List ℕ). x ∷ r) (take-taken n l)
 
-  pub front-length : length (take (length p) after) ≡ length p
-  front-length = ap length front-lowered ∙ lowered-length p
+module _ (p : List ℕ) {n : ℕ} (m : n ≡ min (length p) staticLimit) where
+  front-packet : take n p ≡ take staticLimit p
+  front-packet =
+      let k : n ≡ length (take staticLimit p) = omega (arith, length-take staticLimit p) in
+      ap (λ (i : ℕ). take i p) k ∙ take-taken staticLimit p
 
-  pub front-puttable : {w out : List ℕ} → Sendable w p image out → Puttable w (take (length p) after) out
-  front-puttable s =
-      rw front-lowered
-      (record {
-        usable = s .usable;
-        testable = record { good = lowered-Form p (s .good); small = omega (arith, lowered-length p, s .short) };
-        space = omega (arith, lowered-length p, s .short, s .space);
-      })
+  pub front-size : length (take n p) ≡ n
+  front-size = length-take-le n p (omega arith)
+
+  module _ {w out : List ℕ} (s : Sendable w p out) where
+    pub front-lowerable : (image : List ℕ) → staticLimit ≤ length image → Lowerable (take n p) image
+    front-lowerable image h =
+        record {
+          good = rw front-packet (take-headed staticLimit p (omega arith) (s .good));
+          hops = omega (arith, ap hopsOf front-packet ∙ take-hopsOf staticLimit p (omega arith), s .hops);
+          room = omega (arith, front-size);
+        }
+
+    pub sendable-testable : Testable p
+    sendable-testable = record { good = s .good; small = omega (arith, s .short) }
+
+    module _ (image : List ℕ) {after : List ℕ} (e : after ≡ lowered (take n p) ++ drop (length (take n p)) image) where
+      -- what stands at the front of the image
+      front-after : take n after ≡ lowered (take n p)
+      front-after = ap (take n) e ∙ take-at (lowered (take n p)) (drop (length (take n p)) image) n (lowered-length (take n p) ∙ front-size)
+
+      pub front-count : n ≡ length (take n after)
+      front-count = sym (ap length front-after ∙ lowered-length (take n p) ∙ front-size)
+
+      front-lowered : take n after ≡ take staticLimit (lowered p)
+      front-lowered = front-after ∙ ap lowered front-packet ∙ take-lowered staticLimit p (omega arith) (s .good)
+
+      pub front-fronted : Fronted (take n after) p
+      front-fronted = record { testable = sendable-testable; bytes = front-lowered }
+
+      -- t is the words of the template that was found, as they are cut out
+      pub chosen-shortable : (i : ℕ) {t : List ℕ} → Chosen w (firstFit (templatesOf w) (lowered p)) (At i) → t ≡ wordsAt w i → Shortable t (take n after) p out
+      chosen-shortable i c f =
+          rw f (record {
+            usable = chosen-usable w (lowered p) i c (s .usable);
+            testable = sendable-testable;
+            bytes = front-lowered;
+            fit = chosen-fits w (lowered p) i c;
+            space = omega (arith, s .short, s .space);
+          })
 
 -- ---- the entry point: w are the words of the state
 
-pub go-sendable : (w image : List ℕ) {p out : List ℕ} → SendGo (stateIn w) p (length out) → length p ≤ length image
-    → Sendable (part w tableAt tableWords) p image out
-go-sendable w image {p} {out} s h =
+pub go-sendable : (w : List ℕ) {p out : List ℕ} → SendGo (stateIn w) p (length out) → Sendable (part w tableAt tableWords) p out
+go-sendable w {p} {out} s =
     record {
       usable = table-usable (part w tableAt tableWords) (state-facts (stateIn w) (s .sound) .templates);
       good = form-facts p (s .form);
       hops = omega (arith, s .hops);
       short = s .short;
-      scratch = h;
       space = s .roomy;
     }
 

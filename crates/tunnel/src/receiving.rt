@@ -17,19 +17,17 @@ ghost use mathlib.Core.Path.{_≡_};
 ghost use Prim.Native.Nat.{_≤_};
 ghost use lib.ListN.{length};
 ghost use Rattle.answer.specs.Verdict.{firstOf};
-ghost use Rattle.table.specs.Words.{templateWords, tableWords, templateOf, templatesOf};
-ghost use Rattle.table.specs.Sound.{UsableTemplate, Usable};
+ghost use Rattle.table.specs.Words.{templateWords, templateOf};
+ghost use Rattle.table.specs.Sound.{UsableTemplate};
 ghost use Rattle.state.specs.State.{stateWords, stateIn};
-ghost use Rattle.template.specs.Fits.{listed, withId};
-ghost use Rattle.template.specs.Datagrams.{packet, withinLimit, openShort};
-ghost use Rattle.tunnel.specs.Opening.{Opens, openedIn, shortIn, Receivable, Takable, Takes};
+ghost use Rattle.template.specs.Fits.{listed};
+ghost use Rattle.template.specs.Datagrams.{maxPacket, rebuilt, packet, withinLimit, openShort};
+ghost use Rattle.template.specs.Usable.{Rebuildable};
+ghost use Rattle.tunnel.specs.Opening.{smallImage, openedIn, shortIn, Receivable, Takable, Takes};
 ghost use Rattle.tunnel.specs.Tunnel.{receiveTests, Receives};
 
-// What a datagram opens to: a packet of so many bytes at the front of an image, or a refusal.
-pub enum OpenRead {
-    Packet(usize),
-    Refused(Refusal),
-}
+// The bytes of a small image.
+const SMALL_IMAGE: usize = 128;
 
 // Writes the packet that a datagram stands for to the front of out.
 pub fn receive(state: &[u64; STATE_WORDS], datagram: &[u8], out: &mut [u8]) -> Answer
@@ -89,51 +87,63 @@ fn take_full(state: &[u64], body: &[u8], out: &mut [u8]) -> Answer
     take_in(state, body, out)
 }
 
-// A packet that a template completes: it is rebuilt in an image.
+// A packet that a template completes.
 fn take_short(state: &[u64], id: ContextId, body: &[u8], out: &mut [u8]) -> Answer
     requires { ⌜ stateWords ≤ length (now state) ⌝ }
     requires { ⌜ Receivable (now state) (now out) ⌝ }
     ensures { λ r. ⌜ Takes (now (state .entry)) (shortIn (now (state .entry)) (id .0) (now (body .entry))) (now (out .entry)) r (now (out .exit)) ⌝ }
 {
-    let mut image = [0u8; MAX_PACKET];
-    let read = open_short(&state[TABLE_AT..STORE_AT], id, body, &mut image);
-    match read {
-        OpenRead::Refused(r) => Answer::Refused(r),
-        OpenRead::Packet(n) => take_in(state, &image[..n], out),
-    }
-}
-
-// Puts the packet that the bytes behind the Context ID of a template stand for at the front of image.
-fn open_short(table: &[u64], id: ContextId, body: &[u8], image: &mut [u8; MAX_PACKET]) -> OpenRead
-    requires { ⌜ tableWords ≤ length (now table) ⌝ }
-    requires { ⌜ Usable (now table) ⌝ }
-    ensures { λ r. ⌜ Opens (openShort (now (body .entry)) (withId (id .0) (templatesOf (now (table .entry))))) r (now (image .exit)) ⌝ }
-{
+    let table = &state[TABLE_AT..STORE_AT];
     let found = template::search::find_id(table, id);
     match found {
-        Found::Nothing => OpenRead::Refused(Refusal::UnknownContext),
+        Found::Nothing => Answer::Refused(Refusal::UnknownContext),
         Found::At(i) => {
             let from = 1 + i * TEMPLATE_WORDS;
             let end = from + TEMPLATE_WORDS;
-            open_by(&table[from..end], body, image)
+            take_by(state, &table[from..end], body, out)
         }
     }
 }
 
-// The bytes behind the Context ID of a template.
-fn open_by(t: &[u64], body: &[u8], image: &mut [u8; MAX_PACKET]) -> OpenRead
-    requires { ⌜ templateWords ≤ length (now t) ⌝ }
-    requires { ⌜ UsableTemplate (now t) ⌝ }
-    ensures { λ r. ⌜ Opens (openShort (now (body .entry)) (listed (templateOf (now (t .entry))))) r (now (image .exit)) ⌝ }
+// By the words of a template. A short packet is rebuilt in a small image: clearing a large one would take a quarter of its time.
+fn take_by(state: &[u64], t: &[u64], body: &[u8], out: &mut [u8]) -> Answer
+    requires { ⌜ (stateWords ≤ length (now state)) × (templateWords ≤ length (now t)) ⌝ }
+    requires { ⌜ (Receivable (now state) (now out)) × (UsableTemplate (now t)) ⌝ }
+    ensures { λ r. ⌜ Takes (now (state .entry)) (openShort (now (body .entry)) (listed (templateOf (now (t .entry))))) (now (out .entry)) r (now (out .exit)) ⌝ }
 {
     if !template::body::reaches(t, body) {
-        return OpenRead::Refused(Refusal::CutDatagram);
+        return Answer::Refused(Refusal::CutDatagram);
     }
-    if MAX_PACKET < template::body::rebuilt_length(t, body) {
-        return OpenRead::Refused(Refusal::PacketTooLong);
+    let n = template::body::rebuilt_length(t, body);
+    if MAX_PACKET < n {
+        return Answer::Refused(Refusal::PacketTooLong);
     }
-    let n = template::body::rebuild(t, body, image);
-    OpenRead::Packet(n)
+    if n <= SMALL_IMAGE {
+        return take_small(state, t, body, out);
+    }
+    take_large(state, t, body, out)
+}
+
+// A packet that fits a small image.
+fn take_small(state: &[u64], t: &[u64], body: &[u8], out: &mut [u8]) -> Answer
+    requires { ⌜ (stateWords ≤ length (now state)) × (templateWords ≤ length (now t)) ⌝ }
+    requires { ⌜ (Receivable (now state) (now out)) × (Rebuildable (now t) (now body) smallImage) ⌝ }
+    ensures { λ r. ⌜ Takes (now (state .entry)) (packet (rebuilt (templateOf (now (t .entry))) (now (body .entry)))) (now (out .entry)) r (now (out .exit)) ⌝ }
+{
+    let mut image = [0u8; SMALL_IMAGE];
+    let n = template::body::rebuild(t, body, &mut image);
+    take_in(state, &image[..n], out)
+}
+
+// Any packet within the limit.
+fn take_large(state: &[u64], t: &[u64], body: &[u8], out: &mut [u8]) -> Answer
+    requires { ⌜ (stateWords ≤ length (now state)) × (templateWords ≤ length (now t)) ⌝ }
+    requires { ⌜ (Receivable (now state) (now out)) × (Rebuildable (now t) (now body) maxPacket) ⌝ }
+    ensures { λ r. ⌜ Takes (now (state .entry)) (packet (rebuilt (templateOf (now (t .entry))) (now (body .entry)))) (now (out .entry)) r (now (out .exit)) ⌝ }
+{
+    let mut image = [0u8; MAX_PACKET];
+    let n = template::body::rebuild(t, body, &mut image);
+    take_in(state, &image[..n], out)
 }
 
 // Judges a packet, and copies it to the front of out.
@@ -148,6 +158,6 @@ fn take_in(state: &[u64], inner: &[u8], out: &mut [u8]) -> Answer
     if !granted(state, inner, false) {
         return Answer::Refused(Refusal::NotGranted);
     }
-    let n = bytes::copy(inner, out);
+    let n = octets::copy(inner, out);
     Answer::Done(n)
 }

@@ -7,14 +7,13 @@ use answer::Verdict;
 use inet::lower::lower_into;
 use inet::packet::form;
 use inet::packet::hops;
-use output::put_byte;
-use output::put_bytes;
 use state::STATE_WORDS;
 use state::STORE_AT;
 use state::TABLE_AT;
 use state::state_sound;
+use table::STATIC_LIMIT;
 use table::TEMPLATE_WORDS;
-use table::head_of;
+use table::judged_head;
 use template::Found;
 use template::MAX_PACKET;
 use template::body::shorten;
@@ -22,15 +21,15 @@ use template::checksum::put_seed;
 use template::search::find;
 use varint::put_number;
 ghost use mathlib.Core.Path.{_≡_};
-ghost use Prim.Native.Nat.{_+_, _≤_};
+ghost use Prim.Native.Nat.{_+_, _≤_, min};
 ghost use lib.ListN.{length};
-ghost use Rattle.inet.specs.Packet.{lowered};
+ghost use Rattle.inet.specs.Packet.{Form, hopsOf, lowered};
 ghost use Rattle.output.specs.Places.{Put};
 ghost use Rattle.table.specs.Words.{templateWords, tableWords, templateOf, templatesOf};
 ghost use Rattle.state.specs.State.{stateWords, stateIn};
 ghost use Rattle.template.specs.Datagrams.{shortForm, fullForm, datagram};
 ghost use Rattle.tunnel.specs.Tunnel.{sendVerdict, Sends};
-ghost use Rattle.tunnel.specs.Sending.{Sendable, Puttable, Shortable};
+ghost use Rattle.tunnel.specs.Sending.{Sendable, Shortable};
 
 // Sends a packet: the datagram goes to the front of out.
 pub fn send(state: &[u64; STATE_WORDS], packet: &[u8], out: &mut [u8]) -> Answer
@@ -41,9 +40,8 @@ pub fn send(state: &[u64; STATE_WORDS], packet: &[u8], out: &mut [u8]) -> Answer
     match v {
         Verdict::Stop(why) => Answer::Refused(why),
         Verdict::Go => {
-            let mut image = [0u8; MAX_PACKET];
             let words = &state[..];
-            let n = put_datagram(&words[TABLE_AT..STORE_AT], packet, &mut image, out);
+            let n = put_sent(&words[TABLE_AT..STORE_AT], packet, out);
             Answer::Done(n)
         }
     }
@@ -75,54 +73,67 @@ fn send_verdict(state: &[u64], packet: &[u8], room: usize) -> Verdict
     Verdict::Go
 }
 
-// Lowers the packet in the image, and writes the datagram of what it is then.
-fn put_datagram(table: &[u64], packet: &[u8], image: &mut [u8], out: &mut [u8]) -> usize
+// Writes the datagram of the lowered packet. A table of no templates needs no search.
+fn put_sent(table: &[u64], packet: &[u8], out: &mut [u8]) -> usize
     requires { ⌜ tableWords ≤ length (now table) ⌝ }
-    requires { ⌜ Sendable (now table) (now packet) (now image) (now out) ⌝ }
+    requires { ⌜ Sendable (now table) (now packet) (now out) ⌝ }
     ensures { λ r. ⌜ Put (datagram (templatesOf (now (table .entry))) (lowered (now (packet .entry)))) 0 (now (out .entry)) r (now (out .exit)) ⌝ }
 {
-    lower_into(packet, image);
-    let n = packet.len();
-    put_lowered(table, &mut image[..n], out)
+    if table[0] == 0 {
+        return put_plain(packet, out);
+    }
+    put_searched(table, packet, out)
 }
 
-// Writes the datagram of a packet: short by the first template that fits, else in full. A table of no templates needs no search.
-fn put_lowered(table: &[u64], image: &mut [u8], out: &mut [u8]) -> usize
+// The same where there are templates: short by the first one that fits, else in full. Lowering and templates look at no byte past the front of a packet,
+// but for its sum, and alter none: only the front is copied for them, and the rest goes from the packet to out.
+fn put_searched(table: &[u64], packet: &[u8], out: &mut [u8]) -> usize
     requires { ⌜ tableWords ≤ length (now table) ⌝ }
-    requires { ⌜ Puttable (now table) (now image) (now out) ⌝ }
-    ensures { λ r. ⌜ Put (datagram (templatesOf (now (table .entry))) (now (image .entry))) 0 (now (out .entry)) r (now (out .exit)) ⌝ }
+    requires { ⌜ Sendable (now table) (now packet) (now out) ⌝ }
+    ensures { λ r. ⌜ Put (datagram (templatesOf (now (table .entry))) (lowered (now (packet .entry)))) 0 (now (out .entry)) r (now (out .exit)) ⌝ }
 {
-    if table[0] == 0 {
-        return put_full(image, out);
-    }
-    let found = find(table, image);
+    let mut front = [0u8; STATIC_LIMIT];
+    let n = least(packet.len(), STATIC_LIMIT);
+    lower_into(&packet[..n], &mut front);
+    let found = find(table, &front[..n], packet);
     match found {
-        Found::Nothing => put_full(image, out),
+        Found::Nothing => put_plain(packet, out),
         Found::At(i) => {
             let from = 1 + i * TEMPLATE_WORDS;
             let end = from + TEMPLATE_WORDS;
-            put_short(&table[from..end], image, out)
+            put_short(&table[from..end], packet, &mut front[..n], out)
         }
     }
 }
 
-// The full form: 0, then the packet.
-fn put_full(image: &[u8], out: &mut [u8]) -> usize
-    requires { ⌜ 1 + length (now image) ≤ length (now out) ⌝ }
-    ensures { λ r. ⌜ Put (fullForm (now (image .entry))) 0 (now (out .entry)) r (now (out .exit)) ⌝ }
+fn least(a: usize, b: usize) -> usize
+    ensures { λ r. ⌜ r ≡ min a b ⌝ }
 {
-    let at = put_byte(out, 0, 0);
-    put_bytes(out, at, image)
+    if a < b {
+        return a;
+    }
+    b
+}
+
+// The full form of the lowered packet, which is lowered where it goes.
+fn put_plain(packet: &[u8], out: &mut [u8]) -> usize
+    requires { ⌜ (Form (now packet)) × (1 ≤ hopsOf (now packet)) × (1 + length (now packet) ≤ length (now out)) ⌝ }
+    ensures { λ r. ⌜ Put (fullForm (lowered (now (packet .entry)))) 0 (now (out .entry)) r (now (out .exit)) ⌝ }
+{
+    out[0] = 0;
+    lower_into(packet, &mut out[1..]);
+    1 + packet.len()
 }
 
 // The short form by a template: the Context ID, then the bytes outside all segments with the seed in the field.
-fn put_short(t: &[u64], image: &mut [u8], out: &mut [u8]) -> usize
+fn put_short(t: &[u64], packet: &[u8], front: &mut [u8], out: &mut [u8]) -> usize
     requires { ⌜ templateWords ≤ length (now t) ⌝ }
-    requires { ⌜ Shortable (now t) (now image) (now out) ⌝ }
-    ensures { λ r. ⌜ Put (shortForm (templateOf (now (t .entry))) (now (image .entry))) 0 (now (out .entry)) r (now (out .exit)) ⌝ }
+    requires { ⌜ Shortable (now t) (now front) (now packet) (now out) ⌝ }
+    ensures { λ r. ⌜ Put (shortForm (templateOf (now (t .entry))) (lowered (now (packet .entry)))) 0 (now (out .entry)) r (now (out .exit)) ⌝ }
 {
-    let id = head_of(t).id;
+    let id = judged_head(t).id;
     let at = put_number(out, 0, id.0);
-    put_seed(t, image);
-    shorten(t, image, out, at)
+    put_seed(t, packet, front);
+    let n = front.len();
+    shorten(t, front, &packet[n..], out, at)
 }

@@ -10,14 +10,14 @@ use borrow.Author.Needs.{needs}
 use Rattle.template.proofs.body.last_end.Statement.{statement}
 use Rattle.template.proofs.body.last_end.Tie as tie
 
-abbrev The : tie.After-head-of → List ℕ
+abbrev The : tie.After-judged-head → List ℕ
 The c = c .before .before .args .t .now
 
-counted : (c : tie.After-head-of) → c .head-of .result .count ≡ headOf (The c) .count
-counted c = ap (λ (h : Head). h .count) (c .head-of .ensures)
+counted : (c : tie.After-judged-head) → c .judged-head .result .count ≡ headOf (The c) .count
+counted c = ap (λ (h : Head). h .count) (c .judged-head .ensures)
 
-head-of-requires : tie.Need-head-of-requires
-head-of-requires c κs = search needs
+judged-head-requires : tie.Need-judged-head-requires
+judged-head-requires c κs = search needs
 
 returns : tie.Need-returns
 returns c = last-none (The (c .before)) (counted (c .before)) (c .if1 .taken)
@@ -31,7 +31,7 @@ segment-at-requires c κs = let a = c .before in (a .before .before .pre .0, ome
 add-result : tie.Need-add-result
 add-result c =
     let a = c .before .before .before in
-    let n = a .head-of .result .count in
+    let n = a .judged-head .result .count in
     omega (arith, segment-within (The a) (a .before .before .pre .1) (n - 1) (omega (arith, counted a)) (c .before .segment-at .ensures))
 
 returns-2 : tie.Need-returns-2
@@ -40,4 +40,4 @@ returns-2 c = let a = c .before .before .before in last-end (The a) (counted a) 
 pub last-end-spec : {M : Type 1} → statement M
 last-end-spec =
     tie.close
-    (tie.spec head-of-requires returns sub-segment-at segment-at-requires add-result returns-2)
+    (tie.spec judged-head-requires returns sub-segment-at segment-at-requires add-result returns-2)

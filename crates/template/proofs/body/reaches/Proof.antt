@@ -21,19 +21,19 @@ last-end-requires c κs = search needs
 returns : tie.Need-returns
 returns c = sym (reaches-short (The (c .before .before .before .before .before)) (c .before .before .before .before .before .args .body .now) (omega arith))
 
-head-of-requires : tie.Need-head-of-requires
-head-of-requires c κs = search needs
+judged-head-requires : tie.Need-judged-head-requires
+judged-head-requires c κs = search needs
 
 add-result : tie.Need-add-result
-add-result c = omega (arith, field-within (The (c .before .before .before .before .before .before .before .before)) (c .before .before .before .before .before .before .before .before .pre .1) (c .before .before .head-of .ensures) (c .before .if2 .taken))
+add-result c = omega (arith, field-within (The (c .before .before .before .before .before .before .before .before)) (c .before .before .before .before .before .before .before .before .pre .1) (c .before .before .judged-head .ensures) (c .before .if2 .taken))
 
 returns-2 : tie.Need-returns-2
 returns-2 c =
-    ap (leb (c .before .before .head-of .result .field + 2)) (c .before .before .before .before .before .rebuilt-length .ensures)
-    ∙ sym (reaches-sum (The (c .before .before .before .before .before .before .before .before)) (c .before .before .before .before .before .before .before .before .args .body .now) (c .before .before .head-of .ensures) (omega arith) (c .before .if2 .taken))
+    ap (leb (c .before .before .judged-head .result .field + 2)) (c .before .before .before .before .before .rebuilt-length .ensures)
+    ∙ sym (reaches-sum (The (c .before .before .before .before .before .before .before .before)) (c .before .before .before .before .before .before .before .before .args .body .now) (c .before .before .judged-head .ensures) (omega arith) (c .before .if2 .taken))
 
 returns-3 : tie.Need-returns-3
-returns-3 c = sym (reaches-plain (The (c .before .before .before .before .before .before .before)) (c .before .before .before .before .before .before .before .args .body .now) (c .before .head-of .ensures) (omega arith) (c .if2 .left))
+returns-3 c = sym (reaches-plain (The (c .before .before .before .before .before .before .before)) (c .before .before .before .before .before .before .before .args .body .now) (c .before .judged-head .ensures) (omega arith) (c .if2 .left))
 
 pub reaches-spec : {M : Type 1} → statement M
 reaches-spec =
@@ -42,7 +42,7 @@ reaches-spec =
     rebuilt-length-requires
     last-end-requires
     returns
-    head-of-requires
+    judged-head-requires
     add-result
     returns-2
     returns-3)

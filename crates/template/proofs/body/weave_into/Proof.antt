@@ -20,16 +20,19 @@ abbrev μ-loop : tie.MeasureT-loop
 μ-loop t body image₀ n pos₀ at₀ j₀ image pos at j = n - j
 
 abbrev Known : Type 0
-Known = tie.After-head-of Inv-loop μ-loop
+Known = tie.After-judged-head Inv-loop μ-loop
 
 abbrev AtSegment : Type 0
 AtSegment = tie.After-segment-at Inv-loop μ-loop
 
+abbrev Ended : Type 0
+Ended = tie.After-loop Inv-loop μ-loop
+
 abbrev The : Known → List ℕ
 The c = c .before .before .before .before .args .t .now
 
-counted : (c : Known) → c .head-of .result .count ≡ headOf (The c) .count
-counted c = ap (λ (h : Head). h .count) (c .head-of .ensures)
+counted : (c : Known) → c .judged-head .result .count ≡ headOf (The c) .count
+counted c = ap (λ (h : Head). h .count) (c .judged-head .ensures)
 
 weavable : (c : Known) → Weavable (The c) (c .before .before .before .before .args .body .now) (c .before .before .before .before .args .image .now)
 weavable c = c .before .before .before .before .pre .1
@@ -44,8 +47,12 @@ ready c = weaving-ready _ _ _ (weavable (c .before .before .before)) (c .before 
 within : (c : AtSegment) → c .segment-at .result .offset + c .segment-at .result .length ≤ staticLimit
 within c = segment-within _ (weavable (c .before .before .before) .usable) _ (turn c) (c .segment-at .ensures)
 
-head-of-requires : tie.Need-head-of-requires Inv-loop μ-loop
-head-of-requires c κs = search needs
+-- no segment is left
+finished : (c : Ended) → headOf (The (c .before .before)) .count ≤ c .before .loop .j
+finished c = omega (arith, counted (c .before .before), c .loop-test .left)
+
+judged-head-requires : tie.Need-judged-head-requires Inv-loop μ-loop
+judged-head-requires c κs = let s = c .before .before .before in (s .pre .0, s .pre .1 .usable)
 
 loop-holds : tie.Need-loop-holds Inv-loop μ-loop
 loop-holds c = weaving-none _ _ _ (weavable c)
@@ -81,14 +88,27 @@ loop-again c =
     let a : AtSegment = c .before .before .before .before .before .before .before .before .before in
     weaving-more _ _ _ (weavable (a .before .before .before)) (a .before .before .loop .inv) (turn a) (a .segment-at .ensures) (c .before .before .before .before .before .before .copy-range .ensures) (c .before .before .put-static .ensures)
 
-copy-range-requires-2 : tie.Need-copy-range-requires-2 Inv-loop μ-loop
-copy-range-requires-2 c κs = omega (arith, c .before .before .loop .inv .inside, last-room _ _ _ (weavable (c .before .before .before)) (c .before .before .loop .inv) (omega (arith, counted (c .before .before .before), c .before .loop-test .left)))
+sub-put-bytes : tie.Need-sub-put-bytes Inv-loop μ-loop
+sub-put-bytes c = c .before .before .loop .inv .inside
+
+part-put-bytes-start : tie.Need-part-put-bytes-start Inv-loop μ-loop
+part-put-bytes-start c = c .before .before .loop .inv .inside
+
+part-put-bytes-end : tie.Need-part-put-bytes-end Inv-loop μ-loop
+part-put-bytes-end c = search needs
+
+put-bytes-requires : tie.Need-put-bytes-requires Inv-loop μ-loop
+put-bytes-requires c κs =
+    let e : Ended = c .before .before in
+    last-room _ _ _ (weavable (e .before .before)) (e .before .loop .inv) (finished e)
 
 same-length : tie.Need-same-length Inv-loop μ-loop
-same-length c = c .before .before .copy-range2 .kept .1 .1 .1 .0 ∙ c .before .before .before .before .before .loop .inv .same
+same-length c = c .before .before .put-bytes .ensures .kept ∙ c .before .before .before .before .before .before .loop .inv .same
 
 returns : tie.Need-returns Inv-loop μ-loop
-returns c = weaving-done _ _ _ (weavable (c .before .before .before .before .before .before)) (c .before .before .before .before .before .loop .inv) (omega (arith, counted (c .before .before .before .before .before .before), c .before .before .before .before .loop-test .left)) (c .before .before .copy-range2 .ensures)
+returns c =
+    let e : Ended = c .before .before .before .before .before in
+    weaving-done _ _ _ (weavable (e .before .before)) (e .before .loop .inv) (finished e) (c .before .before .put-bytes .ensures)
 
 pub weave-into-spec : {M : Type 1} → statement M
 weave-into-spec =
@@ -96,7 +116,7 @@ weave-into-spec =
     (tie.spec
     Inv-loop
     μ-loop
-    head-of-requires
+    judged-head-requires
     loop-holds
     segment-at-requires
     add-end
@@ -107,6 +127,9 @@ weave-into-spec =
     add-j
     loop-less
     loop-again
-    copy-range-requires-2
+    sub-put-bytes
+    part-put-bytes-start
+    part-put-bytes-end
+    put-bytes-requires
     same-length
     returns)

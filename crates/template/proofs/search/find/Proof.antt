@@ -1,13 +1,16 @@
 -- What is left to compare gives the answer of each whole comparison: the bytes of a segment, the segments of a template, the templates of the table.
--- The table stays closed: a head, a segment and a byte are those of its template by the contracts of their accessors. Assumes nothing.
+-- The table stays closed: a head, a segment and a byte are those of its template by the contracts of their accessors. A byte of the front is that of
+-- the lowered packet (`front-at`), and a checksum that fits the packet fits it lowered (`fitsSum-lowered`). Assumes nothing.
 use Prim.Native.Nat.{ℕ, _+_, _-_, _≤_, _<_}
 use mathlib.Core.Path.{_≡_, refl, ap, sym, _∙_}
 use mathlib.Core.Bool.{Bool, true, false, _&&_}
 use mathlib.Core.List.{List}
 use native.Mathlib.Omega.{arith}
-use lib.ListN.{length, drop}
+use lib.ListN.{length, getD, drop}
 use borrow.Author.Tests.{not-true, not-false}
 use borrow.Author.Needs.{needs}
+use Rattle.inet.specs.Packet.{lowered}
+use Rattle.inet.proofs.LoweredLaws.{lowered-length}
 use Rattle.table.specs.Limits.{maxTemplates, maxSegments, staticLimit}
 use Rattle.table.specs.Sound.{UsableTemplate}
 use Rattle.table.specs.Templates.{sumAt}
@@ -18,9 +21,11 @@ use Rattle.table.proofs.Judging.{words-at}
 use Rattle.template.specs.declared.Found.the-variants.{At, Nothing}
 use Rattle.template.specs.Pieces.{begins, fitsPieces}
 use Rattle.template.specs.Fits.{fitsSum, fits, firstFit}
-use Rattle.template.specs.Usable.{SumPlace, piecesOf, choiceAt, Chosen}
+use Rattle.template.specs.Usable.{SumPlace, Fronted, piecesOf, choiceAt, Chosen}
 use Rattle.table.proofs.InTurn.{templatesFrom, templates-all}
-use Rattle.template.proofs.Steps.{piecesFrom, pieces-all, fits-short, fits-long, fits-done, begins-same, begins-other, begins-done, unfit-pieces, fit-plain, fit-sum, sum-place, wordsFrom, words-length, find-next, find-here, find-done}
+use Rattle.template.proofs.Steps.{piecesFrom, pieces-all, fits-short, fits-long, fits-done, begins-same, begins-other, begins-done, unfit-pieces, fit-plain, fit-sum, sum-place, wordsFrom, words-length, words-usable, find-next, find-here, find-done}
+use Rattle.template.proofs.CompletionLaws.{fitsSum-lowered}
+use Rattle.template.proofs.FrontLaws.{front-length, front-at}
 use Rattle.template.proofs.search.find.Statement.{statement}
 use Rattle.template.proofs.search.find.Tie as tie
 
@@ -39,32 +44,32 @@ module _ (t : List ℕ) (h : Head) (e : h ≡ headOf t) where
   sum-read p b g f s = fit-sum t p b g (sym (ap (λ (x : Head). x .checksum) e) ∙ f) (rw e at s)
 
 abbrev Inv-bytes : tie.InvT-bytes
-Inv-bytes table packet count answer next i from end t head n j k₀ stop k =
-    (k ≤ stop) × (fitsPieces (piecesFrom t j (n - j)) packet ≡ (begins (window t k (stop - k)) (drop k packet) && fitsPieces (piecesFrom t (j + 1) (n - (j + 1))) packet))
+Inv-bytes table front packet count answer next i from end t head n j k₀ stop k =
+    (k ≤ stop) × (fitsPieces (piecesFrom t j (n - j)) (lowered packet) ≡ (begins (window t k (stop - k)) (drop k (lowered packet)) && fitsPieces (piecesFrom t (j + 1) (n - (j + 1))) (lowered packet)))
 
 abbrev μ-bytes : tie.MeasureT-bytes
-μ-bytes table packet count answer next i from end t head n j k₀ stop k = stop - k
+μ-bytes table front packet count answer next i from end t head n j k₀ stop k = stop - k
 
 abbrev Inv-segments : tie.InvT-segments
-Inv-segments table packet count answer next i from end t head n j₀ j =
-    (j ≤ n) × (fitsPieces (piecesOf t) packet ≡ fitsPieces (piecesFrom t j (n - j)) packet)
+Inv-segments table front packet count answer next i from end t head n j₀ j =
+    (j ≤ n) × (fitsPieces (piecesOf t) (lowered packet) ≡ fitsPieces (piecesFrom t j (n - j)) (lowered packet))
 
 abbrev μ-segments : tie.MeasureT-segments
-μ-segments table packet count answer next i from end t head n j₀ j = n - j
+μ-segments table front packet count answer next i from end t head n j₀ j = n - j
 
 abbrev Inv-templates : tie.InvT-templates
-Inv-templates table packet count answer₀ next₀ answer next =
-    (answer ≡ Nothing) × (next ≤ count) × (firstFit (templatesOf table) packet ≡ firstFit (templatesFrom table next (count - next)) packet)
+Inv-templates table front packet count answer₀ next₀ answer next =
+    (answer ≡ Nothing) × (next ≤ count) × (firstFit (templatesOf table) (lowered packet) ≡ firstFit (templatesFrom table next (count - next)) (lowered packet))
 
 abbrev μ-templates : tie.MeasureT-templates
-μ-templates table packet count answer₀ next₀ answer next = count - next
+μ-templates table front packet count answer₀ next₀ answer next = count - next
 
 -- the places
 abbrev InTemplates : Type 0
 InTemplates = tie.In-templates Inv-bytes μ-bytes Inv-segments μ-segments Inv-templates μ-templates
 
 abbrev Headed : Type 0
-Headed = tie.After-head-of Inv-bytes μ-bytes Inv-segments μ-segments Inv-templates μ-templates
+Headed = tie.After-judged-head Inv-bytes μ-bytes Inv-segments μ-segments Inv-templates μ-templates
 
 abbrev InSegments : Type 0
 InSegments = tie.In-segments Inv-bytes μ-bytes Inv-segments μ-segments Inv-templates μ-templates
@@ -85,10 +90,17 @@ abbrev Count : InTemplates → ℕ
 Count c = c .before .before .count-of .result
 
 abbrev The-table : InTemplates → List ℕ
-The-table c = c .before .before .before .before .before .args .table .now
+The-table c = c .before .before .before .before .before .before .args .table .now
+
+abbrev Front : InTemplates → List ℕ
+Front c = c .before .before .before .before .before .before .args .front .now
+
+-- the packet as it came, and as it goes on
+abbrev Came : InTemplates → List ℕ
+Came c = c .before .before .before .before .before .before .args .packet .now
 
 abbrev Packet : InTemplates → List ℕ
-Packet c = c .before .before .before .before .before .args .packet .now
+Packet c = lowered (Came c)
 
 abbrev The : InTemplates → List ℕ
 The c = wordsFrom (The-table c) (Next c)
@@ -101,19 +113,25 @@ in-use : (c : InTemplates) → Next c < countIn (The-table c)
 in-use c = omega (arith, c .before .before .count-of .ensures)
 
 in-range : (c : InTemplates) → Next c < maxTemplates
-in-range c = omega (arith, in-use c, c .before .before .before .before .before .pre .1 .0 .few)
+in-range c = omega (arith, in-use c, c .before .before .before .before .before .before .pre .1 .0 .few)
 
 the-words : (c : InTemplates) → The c ≡ wordsAt (The-table c) (Next c)
 the-words c = words-at (The-table c) (Next c)
 
 all-there : (c : InTemplates) → templateWords ≤ length (The c)
-all-there c = words-length (The-table c) (Next c) (c .before .before .before .before .before .pre .0) (in-range c)
+all-there c = words-length (The-table c) (Next c) (c .before .before .before .before .before .before .pre .0) (in-range c)
 
 ok : (c : InTemplates) → UsableTemplate (The c)
-ok c = rw (the-words c) (c .before .before .before .before .before .pre .1 .0 .all (Next c) (in-use c))
+ok c = words-usable (The-table c) (Next c) (c .before .before .before .before .before .before .pre .1 .0) (in-use c)
 
-head-few : (c : Headed) → c .head-of .result .count ≤ maxSegments
-head-few c = rw (c .head-of .ensures) (ok (c .before .before) .few)
+fronted : (c : InTemplates) → Fronted (Front c) (Came c)
+fronted c = c .before .before .before .before .before .before .pre .1 .1
+
+as-long : (c : InTemplates) → length (Packet c) ≡ length (Came c)
+as-long c = lowered-length (Came c)
+
+head-few : (c : Headed) → c .judged-head .result .count ≤ maxSegments
+head-few c = rw (c .judged-head .ensures) (ok (c .before .before) .few)
 
 -- a segment that was read is the template's
 offset-read : (c : Segmented) → Seg c .offset ≡ segmentAt (The (c .before .before .before .before .before)) (c .before .before .segments .j) .offset
@@ -126,7 +144,7 @@ within : (c : Segmented) → Seg c .offset + Seg c .length ≤ staticLimit
 within c =
     let s : InSegments = c .before in
     let h : Headed = s .before .before in
-    let n : h .head-of .result .count ≡ headOf (The (h .before .before)) .count = ap (λ (x : Head). x .count) (h .head-of .ensures) in
+    let n : h .judged-head .result .count ≡ headOf (The (h .before .before)) .count = ap (λ (x : Head). x .count) (h .judged-head .ensures) in
     omega (arith, offset-read c, length-read c, ok (h .before .before) .within (s .before .segments .j) (omega (arith, s .segments-test .taken, n)))
 
 fit-words : (c : InTemplates) {b : Bool} → fits (templateOf (The c)) (Packet c) ≡ b → fits (templateOf (wordsAt (The-table c) (Next c))) (Packet c) ≡ b
@@ -143,6 +161,22 @@ compared c =
     let b : InTemplates = c .before .before .before .before in
     c .before .segments .inv .1 ∙ fits-done (The b) (Packet b) (c .before .segments .j) _ (c .segments-test .left)
 
+-- the checksum of the packet decides for the packet as it goes on
+sum-as : (c : AfterSegments) → c .before .before .judged-head .result .checksum ≡ true
+    → fitsSum (sumAt (c .before .before .judged-head .result .field) (c .before .before .judged-head .result .start)) (Packet (c .before .before .before .before))
+    ≡ fitsSum (sumAt (c .before .before .judged-head .result .field) (c .before .before .judged-head .result .start)) (Came (c .before .before .before .before))
+sum-as c e =
+    let h : Headed = c .before .before in
+    let b : InTemplates = h .before .before in
+    fitsSum-lowered (Came b) (h .judged-head .result .field) (h .judged-head .result .start) (place-read (The b) (h .judged-head .result) (h .judged-head .ensures) (ok b) e)
+
+-- a byte that was read from the front is the packet's
+read : (c : InBytes) → getD (Front (c .before .before .before .before .before .before .before .before .before)) (c .before .bytes .k) 0 ≡ getD (Packet (c .before .before .before .before .before .before .before .before .before)) (c .before .bytes .k) 0
+read c =
+    let g : Segmented = c .before .before .before .before in
+    let b : InTemplates = g .before .before .before .before .before in
+    front-at (Came b) (fronted b .bytes) (c .before .bytes .k) (omega (arith, within g))
+
 -- a template that fits
 found : (c : InTemplates) → fits (templateOf (The c)) (Packet c) ≡ true → Chosen (The-table c) (firstFit (templatesOf (The-table c)) (Packet c)) (At (Next c))
 found c e =
@@ -156,8 +190,9 @@ count-of-requires c κs = search needs
 
 templates-holds : tie.Need-templates-holds Inv-bytes μ-bytes Inv-segments μ-segments Inv-templates μ-templates
 templates-holds c =
-    let a = c .before .before .before .args in
-    (refl, omega arith, ap (λ l. firstFit l (a .packet .now)) (templates-all (a .table .now)) ∙ ap (λ (n : ℕ). firstFit (templatesFrom (a .table .now) 0 (n - 0)) (a .packet .now)) (sym (c .count-of .ensures)))
+    let a = c .before .before .before .before .args in
+    let p = lowered (a .packet .now) in
+    (refl, omega arith, ap (λ l. firstFit l p) (templates-all (a .table .now)) ∙ ap (λ (n : ℕ). firstFit (templatesFrom (a .table .now) 0 (n - 0)) p) (sym (c .count-of .ensures)))
 
 add-next : tie.Need-add-next Inv-bytes μ-bytes Inv-segments μ-segments Inv-templates μ-templates
 add-next c = omega arith
@@ -183,11 +218,11 @@ part-t-start c = omega (arith, in-range c)
 part-t-end : tie.Need-part-t-end Inv-bytes μ-bytes Inv-segments μ-segments Inv-templates μ-templates
 part-t-end c = omega (arith, in-range c)
 
-head-of-requires : tie.Need-head-of-requires Inv-bytes μ-bytes Inv-segments μ-segments Inv-templates μ-templates
-head-of-requires c κs = all-there (c .before)
+judged-head-requires : tie.Need-judged-head-requires Inv-bytes μ-bytes Inv-segments μ-segments Inv-templates μ-templates
+judged-head-requires c κs = (all-there (c .before), ok (c .before))
 
 segments-holds : tie.Need-segments-holds Inv-bytes μ-bytes Inv-segments μ-segments Inv-templates μ-templates
-segments-holds c = (omega arith, ap (λ l. fitsPieces l (Packet (c .before .before))) (pieces-read (The (c .before .before)) (c .head-of .result) (c .head-of .ensures)))
+segments-holds c = (omega arith, ap (λ l. fitsPieces l (Packet (c .before .before))) (pieces-read (The (c .before .before)) (c .judged-head .result) (c .judged-head .ensures)))
 
 segment-at-requires : tie.Need-segment-at-requires Inv-bytes μ-bytes Inv-segments μ-segments Inv-templates μ-templates
 segment-at-requires c κs = (all-there (c .before .before .before .before), omega (arith, head-few (c .before .before)))
@@ -205,7 +240,7 @@ templates-again c =
     let b : InTemplates = s .before .before .before .before in (
       b .before .templates .inv .0,
       omega arith,
-      passed b (unfit-pieces (The b) (Packet b) (s .before .segments .inv .1 ∙ fits-short (The b) (Packet b) (s .before .segments .j) _ (s .segments-test .taken) (omega (arith, offset-read g, length-read g, c .if1 .taken)))),
+      passed b (unfit-pieces (The b) (Packet b) (s .before .segments .inv .1 ∙ fits-short (The b) (Packet b) (s .before .segments .j) _ (s .segments-test .taken) (omega (arith, offset-read g, length-read g, c .if1 .taken, as-long b)))),
     )
 
 bytes-holds : tie.Need-bytes-holds Inv-bytes μ-bytes Inv-segments μ-segments Inv-templates μ-templates
@@ -213,10 +248,13 @@ bytes-holds c =
     let g : Segmented = c .before .before in
     let s : InSegments = g .before in
     let b : InTemplates = s .before .before .before .before in
-    (omega arith, fits-long (The b) (Packet b) (s .before .segments .j) _ (s .segments-test .taken) (Seg g .offset) (Seg g .length) (sym (offset-read g)) (sym (length-read g)) (omega arith))
+    (omega arith, fits-long (The b) (Packet b) (s .before .segments .j) _ (s .segments-test .taken) (Seg g .offset) (Seg g .length) (sym (offset-read g)) (sym (length-read g)) (omega (arith, as-long b)))
 
 shared-slice-read-if2 : tie.Need-shared-slice-read-if2 Inv-bytes μ-bytes Inv-segments μ-segments Inv-templates μ-templates
-shared-slice-read-if2 c = omega arith
+shared-slice-read-if2 c =
+    let g : Segmented = c .before .before .before .before .before in
+    let b : InTemplates = g .before .before .before .before .before in
+    omega (arith, within g, front-length (Came b) (fronted b .bytes))
 
 byte-at-requires : tie.Need-byte-at-requires Inv-bytes μ-bytes Inv-segments μ-segments Inv-templates μ-templates
 byte-at-requires c κs =
@@ -234,7 +272,7 @@ templates-again-2 c =
     let b : InTemplates = s .before .before .before .before in (
       b .before .templates .inv .0,
       omega arith,
-      passed b (unfit-pieces (The b) (Packet b) (s .before .segments .inv .1 ∙ (y .before .bytes .inv .1 ∙ rw (begins-other (The b) (Packet b) (y .before .bytes .k) (Seg g .offset + Seg g .length) (omega arith) (omega arith) (λ e. c .if2 .taken (e ∙ sym (c .before .byte-at .ensures))))))),
+      passed b (unfit-pieces (The b) (Packet b) (s .before .segments .inv .1 ∙ (y .before .bytes .inv .1 ∙ rw (begins-other (The b) (Packet b) (y .before .bytes .k) (Seg g .offset + Seg g .length) (omega arith) (omega (arith, as-long b)) (λ e. c .if2 .taken (read y ∙ (e ∙ sym (c .before .byte-at .ensures)))))))),
     )
 
 add-k : tie.Need-add-k Inv-bytes μ-bytes Inv-segments μ-segments Inv-templates μ-templates
@@ -248,7 +286,7 @@ bytes-again c =
     let y : InBytes = c .before .before .before in
     let g : Segmented = y .before .before .before .before in
     let b : InTemplates = g .before .before .before .before .before in
-    (omega arith, y .before .bytes .inv .1 ∙ rw (begins-same (The b) (Packet b) (y .before .bytes .k) (Seg g .offset + Seg g .length) (omega arith) (omega arith) (c .if2 .left ∙ c .before .byte-at .ensures)))
+    (omega arith, y .before .bytes .inv .1 ∙ rw (begins-same (The b) (Packet b) (y .before .bytes .k) (Seg g .offset + Seg g .length) (omega arith) (omega (arith, as-long b)) (sym (read y) ∙ (c .if2 .left ∙ c .before .byte-at .ensures))))
 
 add-j : tie.Need-add-j Inv-bytes μ-bytes Inv-segments μ-segments Inv-templates μ-templates
 add-j c = omega (arith, head-few (c .before .before .before .before .before .before .before))
@@ -266,7 +304,7 @@ segments-again c =
 sum-fits-requires : tie.Need-sum-fits-requires Inv-bytes μ-bytes Inv-segments μ-segments Inv-templates μ-templates
 sum-fits-requires c κs =
     let h : Headed = c .before .before .before in
-    (h .before .before .before .before .before .before .before .pre .1 .1, place-read (The (h .before .before)) (h .head-of .result) (h .head-of .ensures) (ok (h .before .before)) (c .if3 .taken))
+    (fronted (h .before .before) .testable, place-read (The (h .before .before)) (h .judged-head .result) (h .judged-head .ensures) (ok (h .before .before)) (c .if3 .taken))
 
 templates-less-3 : tie.Need-templates-less-3 Inv-bytes μ-bytes Inv-segments μ-segments Inv-templates μ-templates
 templates-less-3 c = omega arith
@@ -278,7 +316,7 @@ templates-again-3 c =
     let b : InTemplates = h .before .before in (
       b .before .templates .inv .0,
       omega arith,
-      passed b (sum-read (The b) (h .head-of .result) (h .head-of .ensures) (Packet b) false (compared a) (c .before .before .if3 .taken) (sym (c .before .sum-fits .ensures) ∙ not-true _ (c .if4 .taken))),
+      passed b (sum-read (The b) (h .judged-head .result) (h .judged-head .ensures) (Packet b) false (compared a) (c .before .before .if3 .taken) (sum-as a (c .before .before .if3 .taken) ∙ (sym (c .before .sum-fits .ensures) ∙ not-true _ (c .if4 .taken)))),
     )
 
 returns : tie.Need-returns Inv-bytes μ-bytes Inv-segments μ-segments Inv-templates μ-templates
@@ -289,14 +327,14 @@ returns-2 c =
     let a : AfterSegments = c .before .before .before in
     let h : Headed = a .before .before in
     let b : InTemplates = h .before .before in
-    found b (sum-read (The b) (h .head-of .result) (h .head-of .ensures) (Packet b) true (compared a) (c .before .before .if3 .taken) (sym (c .before .sum-fits .ensures) ∙ not-false _ (c .if4 .left)))
+    found b (sum-read (The b) (h .judged-head .result) (h .judged-head .ensures) (Packet b) true (compared a) (c .before .before .if3 .taken) (sum-as a (c .before .before .if3 .taken) ∙ (sym (c .before .sum-fits .ensures) ∙ not-false _ (c .if4 .left))))
 
 returns-3 : tie.Need-returns-3 Inv-bytes μ-bytes Inv-segments μ-segments Inv-templates μ-templates
 returns-3 c =
     let a : AfterSegments = c .before in
     let h : Headed = a .before .before in
     let b : InTemplates = h .before .before in
-    found b (plain-read (The b) (h .head-of .result) (h .head-of .ensures) (Packet b) (compared a) (c .if3 .left))
+    found b (plain-read (The b) (h .judged-head .result) (h .judged-head .ensures) (Packet b) (compared a) (c .if3 .left))
 
 pub find-spec : {M : Type 1} → statement M
 find-spec =
@@ -318,7 +356,7 @@ find-spec =
     sub-t
     part-t-start
     part-t-end
-    head-of-requires
+    judged-head-requires
     segments-holds
     segment-at-requires
     add-stop

@@ -7,7 +7,7 @@ use Rattle.table.specs.declared.Head.{Head}
 use Rattle.table.proofs.Judging.{words-at}
 use Rattle.template.specs.Fits.{withId}
 use Rattle.table.proofs.InTurn.{templatesFrom, templates-all}
-use Rattle.template.proofs.Steps.{words-length, id-next, id-here, id-done}
+use Rattle.template.proofs.Steps.{words-length, words-usable, id-next, id-here, id-done}
 use borrow.Author.Needs.{needs}
 use Rattle.template.proofs.search.find_id.Statement.{statement}
 use Rattle.template.proofs.search.find_id.Tie as tie
@@ -26,8 +26,8 @@ in-use : (c : InLoop) → c .before .loop .i < countIn (c .before .before .befor
 in-use c = omega (arith, c .before .before .count-of .ensures)
 
 -- the words that were read are those of template i
-read : (c : tie.After-head-of Inv-loop μ-loop) → c .head-of .result ≡ headOf (wordsAt (c .before .before .before .before .before .before .args .table .now) (c .before .before .before .loop .i))
-read c = c .head-of .ensures ∙ ap headOf (words-at (c .before .before .before .before .before .before .args .table .now) (c .before .before .before .loop .i))
+read : (c : tie.After-judged-head Inv-loop μ-loop) → c .judged-head .result ≡ headOf (wordsAt (c .before .before .before .before .before .before .args .table .now) (c .before .before .before .loop .i))
+read c = c .judged-head .ensures ∙ ap headOf (words-at (c .before .before .before .before .before .before .args .table .now) (c .before .before .before .loop .i))
 
 count-of-requires : tie.Need-count-of-requires Inv-loop μ-loop
 count-of-requires c κs = search needs
@@ -46,22 +46,24 @@ add-from c = search needs
 add-end : tie.Need-add-end Inv-loop μ-loop
 add-end c = search needs
 
-mul-head-of : tie.Need-mul-head-of Inv-loop μ-loop
-mul-head-of c = search needs
+mul-judged-head : tie.Need-mul-judged-head Inv-loop μ-loop
+mul-judged-head c = search needs
 
-sub-head-of : tie.Need-sub-head-of Inv-loop μ-loop
-sub-head-of c = search needs
+sub-judged-head : tie.Need-sub-judged-head Inv-loop μ-loop
+sub-judged-head c = search needs
 
-part-head-of-start : tie.Need-part-head-of-start Inv-loop μ-loop
-part-head-of-start c = search needs
+part-judged-head-start : tie.Need-part-judged-head-start Inv-loop μ-loop
+part-judged-head-start c = search needs
 
-part-head-of-end : tie.Need-part-head-of-end Inv-loop μ-loop
-part-head-of-end c = search needs
+part-judged-head-end : tie.Need-part-judged-head-end Inv-loop μ-loop
+part-judged-head-end c = search needs
 
-head-of-requires : tie.Need-head-of-requires Inv-loop μ-loop
-head-of-requires c κs =
+judged-head-requires : tie.Need-judged-head-requires Inv-loop μ-loop
+judged-head-requires c κs =
     let s = c .before .before .before .before .before in
-    words-length (s .args .table .now) (c .before .before .loop .i) (s .pre .0) (omega (arith, in-use (c .before), s .pre .1 .few))
+    let w = s .args .table .now in
+    let i = c .before .before .loop .i in
+    (words-length w i (s .pre .0) (omega (arith, in-use (c .before), s .pre .1 .few)), words-usable w i (s .pre .1) (in-use (c .before)))
 
 returns : tie.Need-returns Inv-loop μ-loop
 returns c =
@@ -96,11 +98,11 @@ find-id-spec =
     mul-from
     add-from
     add-end
-    mul-head-of
-    sub-head-of
-    part-head-of-start
-    part-head-of-end
-    head-of-requires
+    mul-judged-head
+    sub-judged-head
+    part-judged-head-start
+    part-judged-head-end
+    judged-head-requires
     returns
     add-i
     loop-less

@@ -1,58 +1,88 @@
--- Both sides are parts of the state that keep their rules; each way is one call of `passes`. Assumes nothing.
-use Rattle.state.proofs.StateLaws.{state-facts}
-use Rattle.tunnel.proofs.SendingLaws.{sending-by}
-use Rattle.tunnel.proofs.ReceivingLaws.{receiving-by}
-use borrow.Author.Needs.{needs}
+-- Each side is a part of the state that keeps its rules, and where it stands is picked by the way: one call of `passes` serves both. Assumes nothing.
+use Prim.Native.Nat.{_≤_}
+use mathlib.Core.Path.{_≡_}
+use mathlib.Core.Logic.{⊎-elim}
+use native.Mathlib.Omega.{arith}
+use Rattle.policy.specs.Granted.{sideWords}
+use Rattle.state.specs.State.{receivedAt, givenAt}
+use Rattle.tunnel.proofs.GrantedLaws.{firstAt, secondAt, picked, first-within, second-within, words-enough, first-sound, second-sound, granted-by}
 use Rattle.tunnel.proofs.granted.granted.Statement.{statement}
 use Rattle.tunnel.proofs.granted.granted.Tie as tie
 
+-- the two places, by the way
+first-at : (c : tie.Joined1) → c .if1 .first ≡ firstAt (c .before .before .before .args .sending)
+first-at c = ⊎-elim (λ w. picked receivedAt givenAt (w .0 .taken) (w .1)) (λ w. picked receivedAt givenAt (w .0 .left) (w .1)) (c .if1 .came)
+
+second-at : (c : tie.Joined2) → c .if2 .second ≡ secondAt (c .before .before .before .before .args .sending)
+second-at c = ⊎-elim (λ w. picked givenAt receivedAt (w .0 .taken) (w .1)) (λ w. picked givenAt receivedAt (w .0 .left) (w .1)) (c .if2 .came)
+
+first-low : (c : tie.Joined1) → c .if1 .first ≤ sideWords
+first-low c = first-within (c .before .before .before .args .sending) (first-at c)
+
+second-low : (c : tie.Joined2) → c .if2 .second ≤ sideWords
+second-low c = second-within (c .before .before .before .before .args .sending) (second-at c)
+
+add-side : tie.Need-add-side
+add-side c = omega (arith, first-low (c .before .before))
+
+mul-side : tie.Need-mul-side
+mul-side c = omega (arith, first-low (c .before .before))
+
+sub-side : tie.Need-sub-side
+sub-side c = omega (arith, first-low (c .before .before))
+
+part-side-start : tie.Need-part-side-start
+part-side-start c = omega (arith, first-low (c .before .before))
+
+part-side-end : tie.Need-part-side-end
+part-side-end c = omega (arith, first-low (c .before .before))
+
+add-reply : tie.Need-add-reply
+add-reply c = omega (arith, second-low (c .before .before .before))
+
+mul-reply : tie.Need-mul-reply
+mul-reply c = omega (arith, second-low (c .before .before .before))
+
+sub-reply : tie.Need-sub-reply
+sub-reply c = omega (arith, second-low (c .before .before .before))
+
+part-reply-start : tie.Need-part-reply-start
+part-reply-start c = omega (arith, second-low (c .before .before .before))
+
+part-reply-end : tie.Need-part-reply-end
+part-reply-end c = omega (arith, second-low (c .before .before .before))
+
 flow-of-requires : tie.Need-flow-of-requires
-flow-of-requires c κs = c .before .before .pre .1 .1
-
-sub-received : tie.Need-sub-received
-sub-received c = search needs
-
-part-received-start : tie.Need-part-received-start
-part-received-start c = search needs
-
-part-received-end : tie.Need-part-received-end
-part-received-end c = search needs
-
-sub-given : tie.Need-sub-given
-sub-given c = search needs
-
-part-given-start : tie.Need-part-given-start
-part-given-start c = search needs
-
-part-given-end : tie.Need-part-given-end
-part-given-end c = search needs
+flow-of-requires c κs = c .before .before .before .before .before .before .before .before .pre .1 .1
 
 passes-requires : tie.Need-passes-requires
 passes-requires c κs =
-    let f = state-facts _ (c .before .before .before .before .before .before .pre .1 .0) in (search needs, (f .received, f .given))
+    let s = c .before .before .before .before .before .before .before .before .before in
+    let i = c .before .before .before .before .before .before in
+    let j = c .before .before .before .before .before in
+    let w = s .args .state .now in
+    let b = s .args .sending in
+    ((words-enough w (first-low i) (s .pre .0), words-enough w (second-low j) (s .pre .0)), (first-sound w b (s .pre .1 .0) (first-at i), second-sound w b (s .pre .1 .0) (second-at j)))
 
 returns : tie.Need-returns
-returns c = rw (c .before .if1 .taken) (sending-by _ _ (c .before .before .before .before .flow-of .ensures) (c .passes .ensures))
-
-passes-requires-2 : tie.Need-passes-requires-2
-passes-requires-2 c κs =
-    let f = state-facts _ (c .before .before .before .before .before .before .pre .1 .0) in (search needs, (f .given, f .received))
-
-returns-2 : tie.Need-returns-2
-returns-2 c = rw (c .before .if1 .left) (receiving-by _ _ (c .before .before .before .before .flow-of .ensures) (c .passes2 .ensures))
+returns c =
+    let a = c .before .before .before .before .before .before .before .before .before .before .args in
+    granted-by (a .state .now) (a .packet .now) (a .sending) (first-at (c .before .before .before .before .before .before .before)) (second-at (c .before .before .before .before .before .before)) (c .before .flow-of .ensures) (c .passes .ensures)
 
 pub granted-spec : {M : Type 1} → statement M
 granted-spec =
     tie.close
     (tie.spec
+    add-side
+    mul-side
+    sub-side
+    part-side-start
+    part-side-end
+    add-reply
+    mul-reply
+    sub-reply
+    part-reply-start
+    part-reply-end
     flow-of-requires
-    sub-received
-    part-received-start
-    part-received-end
-    sub-given
-    part-given-start
-    part-given-end
     passes-requires
-    returns
-    passes-requires-2
-    returns-2)
+    returns)

@@ -1,77 +1,119 @@
--- The template rebuilds the packet at the front of the image, and the packet is judged there. Assumes nothing.
-use mathlib.Core.Path.{sym}
+-- The search found the template with the Context ID, or there is none. Assumes nothing.
+use Prim.Native.Nat.{ℕ, _<_}
+use mathlib.Core.Path.{ap}
+use mathlib.Core.List.{List}
+use native.Mathlib.Omega.{arith}
+use Rattle.octets.specs.Parts.{part}
+use Rattle.table.specs.Limits.{maxTemplates}
+use Rattle.table.specs.Words.{tableWords}
+use Rattle.table.specs.Sound.{Usable}
+use Rattle.table.proofs.Judging.{words-at}
 use Rattle.table.proofs.TableFacts.{table-usable}
-use Rattle.state.specs.State.{stateIn}
+use Rattle.state.specs.State.{tableAt, stateIn}
 use Rattle.state.proofs.StateLaws.{state-facts}
-use Rattle.tunnel.specs.declared.receiving.OpenRead.the-variants.{Packet}
-use Rattle.tunnel.specs.Opening.{Opens, shortIn}
+use Rattle.template.specs.Datagrams.{openShort}
+use Rattle.template.proofs.Steps.{words-length}
 use Rattle.tunnel.proofs.ReceivingSteps as Steps
 use Rattle.tunnel.proofs.ReceivingOpening as Opening
 use borrow.Author.Needs.{needs}
 use Rattle.tunnel.proofs.receiving.take_short.Statement.{statement}
 use Rattle.tunnel.proofs.receiving.take_short.Tie as tie
 
--- the packet at the front of the image
-abbrev In : tie.After-known-told2 → tie.Start
-In c = c .before .before .before .before .before .before .before .before .before
+-- the table of the state
+abbrev Table : tie.Start → List ℕ
+Table s = part (s .args .state .now) tableAt tableWords
 
-front : (c : tie.After-known-told2)
-    → Opens (shortIn (In c .args .state .now) (In c .args .id .0) (In c .args .body .now)) (Packet (c .before .read2 .given .0 .0)) (c .before .before .before .open-short .last .1 .1 .1 .0)
-front c = Opening.opens-told (c .before .before .before .open-short .ensures) (c .before .read2 .given .1)
+usable : (s : tie.Start) → Usable (Table s)
+usable s = table-usable _ (state-facts (stateIn (s .args .state .now)) (s .pre .1 .sound) .templates)
 
-sub-open-short : tie.Need-sub-open-short
-sub-open-short c = search needs
+-- in the arm `At`: the start, and the place that was found
+abbrev In : tie.After-known-told → tie.Start
+In c = c .before .before .before .before .before .before .before .before
 
-part-open-short-start : tie.Need-part-open-short-start
-part-open-short-start c = search needs
+abbrev Place : tie.After-known-told → ℕ
+Place c = c .before .found .given .0 .0
 
-part-open-short-end : tie.Need-part-open-short-end
-part-open-short-end c = search needs
+few : (c : tie.After-known-told) → Place c < maxTemplates
+few c = Opening.found-few _ _ (c .before .before .before .find-id .ensures) _ (c .before .found .given .1) (usable (In c))
 
-open-short-requires : tie.Need-open-short-requires
-open-short-requires c κs =
-    let s = c .before .before .before .before .before in
-    (search needs, table-usable _ (state-facts (stateIn (s .args .state .now)) (s .pre .1 .sound) .templates))
+sub-table : tie.Need-sub-table
+sub-table c = search needs
 
-enum-known-read : tie.Need-enum-known-read
-enum-known-read c = search needs
+part-table-start : tie.Need-part-table-start
+part-table-start c = search needs
 
-enum-known-read-2 : tie.Need-enum-known-read-2
-enum-known-read-2 c = search needs
+part-table-end : tie.Need-part-table-end
+part-table-end c = search needs
 
-array-share-prefix-image : tie.Need-array-share-prefix-image
-array-share-prefix-image c = Opening.opens-within _ (front c)
+find-id-requires : tie.Need-find-id-requires
+find-id-requires c κs = (search needs, usable (c .before .before .before .before))
 
-slice-aggregate-take-in : tie.Need-slice-aggregate-take-in
-slice-aggregate-take-in c = sym (Opening.opens-length _ (front (c .before)))
+enum-told : tie.Need-enum-told
+enum-told c = search needs
 
-take-in-requires : tie.Need-take-in-requires
-take-in-requires c κs =
+enum-known-found : tie.Need-enum-known-found
+enum-known-found c = search needs
+
+mul-from : tie.Need-mul-from
+mul-from c = omega (arith, few c)
+
+add-from : tie.Need-add-from
+add-from c = omega (arith, few c)
+
+add-end : tie.Need-add-end
+add-end c = omega (arith, few c)
+
+mul-take-by : tie.Need-mul-take-by
+mul-take-by c = omega (arith, few c)
+
+sub-take-by : tie.Need-sub-take-by
+sub-take-by c = search needs
+
+part-take-by-start : tie.Need-part-take-by-start
+part-take-by-start c = search needs
+
+part-take-by-end : tie.Need-part-take-by-end
+part-take-by-end c = omega (arith, few c)
+
+take-by-requires : tie.Need-take-by-requires
+take-by-requires c κs =
     let k = c .before .before in
-    (search needs, record { sound = In k .pre .1 .sound; room = Opening.opens-room (In k .args .state .now) (In k .args .id .0) (In k .args .body .now) (front k) (In k .pre .1 .room) })
+    let s = In k in (
+      (s .pre .0, words-length (Table s) (Place k) (search needs) (few k)),
+      (s .pre .1, Opening.found-usable _ _ (k .before .before .before .find-id .ensures) _ (k .before .found .given .1) (words-at (Table s) (Place k)) (usable s)),
+    )
 
 returns : tie.Need-returns
-returns c = Steps.takes-refused _ (Opening.opens-stop _ (Opening.opens-told (c .before .before .before .open-short .ensures) (c .before .read .given .1)))
+returns c = Steps.takes-refused _ (Opening.none-listed _ _ (c .before .before .find-id .ensures) _ (c .enum-told .given .1))
 
 same-length : tie.Need-same-length
 same-length c = search needs
 
 returns-2 : tie.Need-returns-2
-returns-2 c = Steps.takes-as _ (Opening.opens-front _ (front (c .before .before .before .before .before))) (c .before .before .take-in .ensures)
+returns-2 c =
+    let k = c .before .before .before .before .before in
+    Steps.takes-as _
+    (ap (openShort (In k .args .body .now)) (Opening.found-listed _ _ (k .before .before .before .find-id .ensures) _ (k .before .found .given .1) (words-at (Table (In k)) (Place k))))
+    (c .before .before .take-by .ensures)
 
 pub take-short-spec : {M : Type 1} → statement M
 take-short-spec =
     tie.close
     (tie.spec
-    sub-open-short
-    part-open-short-start
-    part-open-short-end
-    open-short-requires
-    enum-known-read
-    enum-known-read-2
-    array-share-prefix-image
-    slice-aggregate-take-in
-    take-in-requires
+    sub-table
+    part-table-start
+    part-table-end
+    find-id-requires
+    enum-told
+    enum-known-found
+    mul-from
+    add-from
+    add-end
+    mul-take-by
+    sub-take-by
+    part-take-by-start
+    part-take-by-end
+    take-by-requires
     returns
     same-length
     returns-2)

@@ -29,20 +29,17 @@ enum-known-v c = search needs
 enum-told : tie.Need-enum-told
 enum-told c = search needs
 
-sub-put-datagram : tie.Need-sub-put-datagram
-sub-put-datagram c = search needs
+sub-put-sent : tie.Need-sub-put-sent
+sub-put-sent c = search needs
 
-part-put-datagram-start : tie.Need-part-put-datagram-start
-part-put-datagram-start c = search needs
+part-put-sent-start : tie.Need-part-put-sent-start
+part-put-sent-start c = search needs
 
-part-put-datagram-end : tie.Need-part-put-datagram-end
-part-put-datagram-end c = search needs
+part-put-sent-end : tie.Need-part-put-sent-end
+part-put-sent-end c = search needs
 
-slice-aggregate-put-datagram : tie.Need-slice-aggregate-put-datagram
-slice-aggregate-put-datagram c = search needs
-
-put-datagram-requires : tie.Need-put-datagram-requires
-put-datagram-requires c κs = let t = c .before .before .before .before in (search needs, go-sendable (In t .args .state .now) _ (go t) (go t .short))
+put-sent-requires : tie.Need-put-sent-requires
+put-sent-requires c κs = let t = c .before .before .before in (search needs, go-sendable (In t .args .state .now) (go t))
 
 returns : tie.Need-returns
 returns c = record { writes = writes-stop (sym (c .before .before .before .send-verdict .ensures) ∙ c .before .v .given .1) }
@@ -52,8 +49,8 @@ same-length c = search needs
 
 returns-2 : tie.Need-returns-2
 returns-2 c =
-    let t = c .before .before .before .before .before .before .before .before in
-    record { writes = sends-go (In t .args .state .now) (In t .args .packet .now) (went t) (c .before .before .before .put-datagram .ensures) }
+    let t = c .before .before .before .before .before .before in
+    record { writes = sends-go (In t .args .state .now) (In t .args .packet .now) (went t) (c .before .before .put-sent .ensures) }
 
 pub send-spec : {M : Type 1} → statement M
 send-spec =
@@ -62,11 +59,10 @@ send-spec =
     send-verdict-requires
     enum-known-v
     enum-told
-    sub-put-datagram
-    part-put-datagram-start
-    part-put-datagram-end
-    slice-aggregate-put-datagram
-    put-datagram-requires
+    sub-put-sent
+    part-put-sent-start
+    part-put-sent-end
+    put-sent-requires
     returns
     same-length
     returns-2)
