@@ -11,54 +11,135 @@ use whapirohi_reference::{
 };
 use whapirohi_tunnel::CAPSULE_ROOM;
 
-pub const SOURCE: u32 = 0xC000_0203;
-pub const DESTINATION: u32 = 0xC633_6402;
 pub const UDP: u8 = 17;
 
+/// IPv4 or IPv6: packets and lists of one version.
+#[derive(Clone, Copy, PartialEq, Eq)]
+pub enum Family {
+    V4,
+    V6,
+}
+
+impl Family {
+    pub fn version(self) -> u8 {
+        match self {
+            Family::V4 => 4,
+            Family::V6 => 6,
+        }
+    }
+
+    pub fn name(self) -> &'static str {
+        match self {
+            Family::V4 => "IPv4",
+            Family::V6 => "IPv6",
+        }
+    }
+
+    fn width(self) -> u8 {
+        match self {
+            Family::V4 => 32,
+            Family::V6 => 128,
+        }
+    }
+
+    fn header(self) -> usize {
+        match self {
+            Family::V4 => 20,
+            Family::V6 => 40,
+        }
+    }
+
+    /// Where the packet's addresses stand; they end with the header.
+    fn addresses_at(self) -> usize {
+        match self {
+            Family::V4 => 12,
+            Family::V6 => 8,
+        }
+    }
+
+    fn source(self) -> u128 {
+        match self {
+            Family::V4 => 0xC000_0203,
+            Family::V6 => 0x2001_0db8_0000_0001_0000_0000_0000_0203,
+        }
+    }
+
+    fn destination(self) -> u128 {
+        match self {
+            Family::V4 => 0xC633_6402,
+            Family::V6 => 0x2001_0db8_0000_0002_0000_0000_0000_6402,
+        }
+    }
+
+    /// An address that lies in no list of the packet's side.
+    fn elsewhere(self, low: u128) -> u128 {
+        match self {
+            Family::V4 => 0x0A00_0000 + low,
+            Family::V6 => (0x2001_0db8_000a_u128 << 80) + low,
+        }
+    }
+}
+
 /// Lists of which the last elements match the packet; the given lists are as long and match nothing.
-pub fn grants(addresses: usize, ranges: usize) -> Grants {
-    let entries = |last: u32| {
+pub fn grants(family: Family, addresses: usize, ranges: usize) -> Grants {
+    let version = family.version();
+    let entries = |last: u128| {
         let mut list = AddressList { count: addresses, ..List::default() };
         for (n, entry) in list.items[..addresses].iter_mut().rev().enumerate() {
-            let address = u128::from(last - n as u32);
-            *entry = AddressEntry { request_id: RequestId(n as u64 + 1), version: 4, prefix: 32, address };
+            let request_id = RequestId(n as u64 + 1);
+            *entry = AddressEntry { request_id, version, prefix: family.width(), address: last - n as u128 };
         }
         list
     };
-    let routes = |last: u32| {
+    let routes = |last: u128| {
         let mut list = RouteList { count: ranges, ..List::default() };
         for (n, range) in list.items[..ranges].iter_mut().rev().enumerate() {
-            let address = u128::from(last - 2 * n as u32);
-            *range = RouteRange { version: 4, protocol: UDP, start: address, end: address };
+            let address = last - 2 * n as u128;
+            *range = RouteRange { version, protocol: UDP, start: address, end: address };
         }
         list
     };
     Grants {
-        received_addresses: entries(SOURCE),
-        received_routes: routes(DESTINATION),
-        given_addresses: entries(0x0A00_0100),
-        given_routes: routes(0x0A00_1000),
+        received_addresses: entries(family.source()),
+        received_routes: routes(family.destination()),
+        given_addresses: entries(family.elsewhere(0x0100)),
+        given_routes: routes(family.elsewhere(0x1000)),
     }
 }
 
 /// A UDP packet from port 1,000 to port 2,000 with a sound checksum.
-pub fn packet(length: usize) -> Vec<u8> {
+pub fn packet(family: Family, length: usize) -> Vec<u8> {
+    let header = family.header();
     let mut packet: Vec<u8> = (0..length).map(|n| (n * 7 + 3) as u8).collect();
-    packet[..20].fill(0);
-    packet[0] = 0x45;
-    put_word(&mut packet, 2, length as u16);
-    packet[8] = 64;
-    packet[9] = UDP;
-    packet[12..16].copy_from_slice(&SOURCE.to_be_bytes());
-    packet[16..20].copy_from_slice(&DESTINATION.to_be_bytes());
-    put_word(&mut packet, 20, 1000);
-    put_word(&mut packet, 22, 2000);
-    put_word(&mut packet, 24, (length - 20) as u16);
-    put_word(&mut packet, 26, 0);
-    let checksum = complete(sum(&packet[20..]) + u32::from(seed(&packet, length, 20)), true);
-    put_word(&mut packet, 26, checksum);
-    let checksum = !fold(sum(&packet[..20]));
-    put_word(&mut packet, 10, checksum);
+    packet[..header].fill(0);
+    match family {
+        Family::V4 => {
+            packet[0] = 0x45;
+            put_word(&mut packet, 2, length as u16);
+            packet[8] = 64;
+            packet[9] = UDP;
+            packet[12..16].copy_from_slice(&(family.source() as u32).to_be_bytes());
+            packet[16..20].copy_from_slice(&(family.destination() as u32).to_be_bytes());
+        }
+        Family::V6 => {
+            packet[0] = 0x60;
+            put_word(&mut packet, 4, (length - 40) as u16);
+            packet[6] = UDP;
+            packet[7] = 64;
+            packet[8..24].copy_from_slice(&family.source().to_be_bytes());
+            packet[24..40].copy_from_slice(&family.destination().to_be_bytes());
+        }
+    }
+    put_word(&mut packet, header, 1000);
+    put_word(&mut packet, header + 2, 2000);
+    put_word(&mut packet, header + 4, (length - header) as u16);
+    put_word(&mut packet, header + 6, 0);
+    let checksum = complete(sum(&packet[header..]) + u32::from(seed(&packet, length, header)), true);
+    put_word(&mut packet, header + 6, checksum);
+    if family == Family::V4 {
+        let checksum = !fold(sum(&packet[..20]));
+        put_word(&mut packet, 10, checksum);
+    }
     packet
 }
 
@@ -73,38 +154,46 @@ pub enum Miss {
     Checksum,
 }
 
-pub fn plan(count: usize, miss: Miss) -> Plan {
+/// Templates of both addresses and both ports, with the checksum of UDP.
+pub fn plan(family: Family, count: usize, miss: Miss) -> Plan {
     let mut plan = Plan::default();
     plan.templates.count = count;
-    let front = packet(576);
+    let front = packet(family, 576);
+    let (from, start) = (family.addresses_at(), family.header());
+    let to = start + 4;
     for (n, template) in plan.templates.items[..count].iter_mut().enumerate() {
         *template = Template { id: ContextId(n as u64 + 2), ..Template::default() };
         template.segments.count = 1;
-        template.segments.items[0] = Segment { offset: 12, length: 12 };
-        template.bytes[12..24].copy_from_slice(&front[12..24]);
-        template.checksum = Some(Checksum { field: 26, start: 20 });
+        template.segments.items[0] = Segment { offset: from, length: to - from };
+        template.bytes[from..to].copy_from_slice(&front[from..to]);
+        template.checksum = Some(Checksum { field: start + 6, start });
         match miss {
-            Miss::EarlierPorts => template.bytes[23] ^= u8::from(n + 1 < count),
-            Miss::FirstByte => template.bytes[12] ^= 1,
-            Miss::LastByte => template.bytes[23] ^= 1,
-            Miss::Checksum => template.checksum = Some(Checksum { field: 28, start: 20 }),
+            Miss::EarlierPorts => template.bytes[to - 1] ^= u8::from(n + 1 < count),
+            Miss::FirstByte => template.bytes[from] ^= 1,
+            Miss::LastByte => template.bytes[to - 1] ^= 1,
+            Miss::Checksum => template.checksum = Some(Checksum { field: start + 8, start }),
         }
     }
     plan
 }
 
-pub fn ipv6_lists() -> Grants {
+/// Full lists of received addresses and routes, as networks.
+pub fn network_lists(family: Family) -> Grants {
     let mut lists = Grants::default();
-    let network = 0x2001_0db8_u128 << 96;
+    let (network, step, prefix) = match family {
+        Family::V4 => (0x0A00_0000, 1 << 16, 16),
+        Family::V6 => (0x2001_0db8_u128 << 96, 1 << 64, 64),
+    };
+    let version = family.version();
     lists.received_addresses.count = MAX_ADDRESSES;
     for (n, entry) in lists.received_addresses.items.iter_mut().enumerate() {
-        let address = network + ((n as u128) << 64);
-        *entry = AddressEntry { request_id: RequestId(n as u64 + 1), version: 6, prefix: 64, address };
+        let address = network + n as u128 * step;
+        *entry = AddressEntry { request_id: RequestId(n as u64 + 1), version, prefix, address };
     }
     lists.received_routes.count = MAX_RANGES;
     for (n, range) in lists.received_routes.items.iter_mut().enumerate() {
-        let start = network + ((n as u128) << 64);
-        *range = RouteRange { version: 6, protocol: UDP, start, end: start + 0xffff };
+        let start = network + n as u128 * step;
+        *range = RouteRange { version, protocol: UDP, start, end: start + 0xffff };
     }
     lists
 }
@@ -118,10 +207,10 @@ pub fn datagram_capsule(size: usize) -> Vec<u8> {
     out[..length].to_vec()
 }
 
-/// A ROUTE_ADVERTISEMENT of so many IPv6 ranges, 34 bytes each.
-pub fn routes_capsule(count: usize) -> Vec<u8> {
+/// A ROUTE_ADVERTISEMENT of so many ranges: IPv6 takes 34 bytes each, IPv4 10.
+pub fn routes_capsule(family: Family, count: usize) -> Vec<u8> {
     let mut out = vec![0; CAPSULE_ROOM];
-    let list = RouteList { count, ..ipv6_lists().received_routes };
+    let list = RouteList { count, ..network_lists(family).received_routes };
     let length = write_routes(&list, &mut out).unwrap();
     out[..length].to_vec()
 }

@@ -7,8 +7,8 @@ use std::cell::RefCell;
 use std::hint::black_box;
 use std::time::{Duration, Instant};
 use whapirohi_bench::{
-    datagram_capsule, grants, ipv6_lists, numbered_entries, packet, plan, routes_capsule, shuffled_ids, Miss,
-    MOST_DIFFERENT, MOST_ENTRIES, MOST_OF_FOUR, SHORT_IDS,
+    datagram_capsule, grants, network_lists, numbered_entries, packet, plan, routes_capsule, shuffled_ids, Family,
+    Miss, MOST_DIFFERENT, MOST_ENTRIES, MOST_OF_FOUR, SHORT_IDS,
 };
 use whapirohi_differential::subject::{Lent, Subject};
 use whapirohi_differential::words::{mirrored, state_of};
@@ -31,159 +31,232 @@ const ROUND: Duration = Duration::from_micros(400);
 const FEWEST_ROUNDS: usize = 11;
 const LONGEST: Duration = Duration::from_secs(3);
 
+/// The ratios of all rows, and of those that the search among templates does not decide.
+#[derive(Default)]
+struct Ratios {
+    all: Vec<f64>,
+    without_search: Vec<f64>,
+}
+
+/// What the rows of one table have in common, and the ratios of all tables.
+struct Rows<'a> {
+    ratios: &'a mut Ratios,
+    searches: bool,
+}
+
 fn main() {
     if cfg!(not(feature = "library")) {
         println!("without the library: the first column is the reference behind words\n");
     }
-    println!("Nanoseconds a call, median of {ROUNDS} rounds, or of as many as fit in {LONGEST:?}; outputs are not cleared between calls.\n");
-    println!("| call | packet | templates | lists | proved | Rust | ratio |");
-    println!("|---|---:|---|---|---:|---:|---:|");
-    let one = grants(1, 1);
-    let states = [("1", one), ("16/64", grants(16, 64)), ("full", grants(MAX_ADDRESSES, MAX_RANGES))];
-    for (lists, grants) in &states {
-        for length in [64, 576, MAX_PACKET] {
-            for templates in [0, 1, MAX_TEMPLATES] {
-                tunnel_rows(lists, grants, length, &templates.to_string(), &plan(templates, Miss::EarlierPorts));
+    let mut ratios = Ratios::default();
+    println!("Nanoseconds a call, median of {ROUNDS} rounds, or of as many as fit in {LONGEST:?}; outputs are not cleared between calls.");
+    for family in [Family::V4, Family::V6] {
+        let states = states(family);
+        println!("\n{} packets and lists.\n", family.name());
+        println!("| call | packet | templates | lists | proved | Rust | ratio |");
+        println!("|---|---:|---|---|---:|---:|---:|");
+        for (lists, grants) in &states {
+            for length in [64, 576, MAX_PACKET] {
+                for templates in [0, 1, MAX_TEMPLATES] {
+                    let mut rows = Rows { ratios: &mut ratios, searches: templates == MAX_TEMPLATES };
+                    let plan = plan(family, templates, Miss::EarlierPorts);
+                    rows.tunnel(lists, grants, &packet(family, length), &templates.to_string(), &plan);
+                }
             }
         }
+        println!(
+            "\n{}: choosing a template, by what it costs to send 576 bytes in full past 8 templates that do not fit.\n",
+            family.name()
+        );
+        println!("| call | packet | templates | lists | proved | Rust | ratio |");
+        println!("|---|---:|---|---|---:|---:|---:|");
+        let mut rows = Rows { ratios: &mut ratios, searches: true };
+        for (name, miss) in [
+            ("8, first byte differs", Miss::FirstByte),
+            ("8, last byte differs", Miss::LastByte),
+            ("8, checksum differs", Miss::Checksum),
+        ] {
+            rows.send("1", &states[0].1, &packet(family, 576), name, &plan(family, MAX_TEMPLATES, miss));
+        }
+        println!("\nReading a capsule; the state and the capsule's lists are {}.\n", family.name());
+        println!("| capsule | bytes | | lists | proved | Rust | ratio |");
+        println!("|---|---:|---|---|---:|---:|---:|");
+        let mut rows = Rows { ratios: &mut ratios, searches: false };
+        for (lists, grants) in &states {
+            rows.capsules(lists, grants, family);
+        }
     }
-    println!("\nChoosing a template, by what it costs to send 576 bytes in full past 8 templates that do not fit.\n");
-    println!("| call | packet | templates | lists | proved | Rust | ratio |");
-    println!("|---|---:|---|---|---:|---:|---:|");
-    for (name, miss) in [
-        ("none", None),
-        ("8, first byte differs", Some(Miss::FirstByte)),
-        ("8, last byte differs", Some(Miss::LastByte)),
-        ("8, checksum differs", Some(Miss::Checksum)),
-    ] {
-        let plan = miss.map_or(Plan::default(), |miss| plan(MAX_TEMPLATES, miss));
-        send_row("1", &one, &packet(576), name, &plan);
-    }
-    println!("\nReading a capsule, the state as in the column.\n");
-    println!("| capsule | bytes | | lists | proved | Rust | ratio |");
-    println!("|---|---:|---|---|---:|---:|---:|");
-    for (lists, grants) in &states {
-        capsule_rows(lists, grants);
-    }
+    let states = states(Family::V4);
+    let one = &states[0].1;
+    let mut rows = Rows { ratios: &mut ratios, searches: false };
     println!("\nReading more entries than a list holds, as an ADDRESS_REQUEST and as an ADDRESS_ASSIGN of the same bytes, microseconds; lists of 1.");
     println!("Both are refused with 7, but a request in which IDs repeat with 6.\n");
     println!(
         "| entries | bytes | proved: request | assign | request / assign | Rust: request | assign | request / assign | request: proved / Rust |"
     );
     println!("|---|---:|---:|---:|---:|---:|---:|---:|---:|");
-    over_the_limit(&one);
+    rows.over_the_limit(one);
     println!("\nA stream of {STREAM_CAPSULES} capsules in pieces, microseconds a stream; both test the whole state in every call.\n");
     println!("| capsules | bytes each | pieces of | lists | proved | Rust | ratio |");
     println!("|---|---:|---:|---|---:|---:|---:|");
     for (lists, grants) in &states {
-        stream_rows(lists, grants, "DATAGRAM", &datagram_capsule(1000));
-        stream_rows(lists, grants, "ROUTE_ADVERTISEMENT", &routes_capsule(29));
+        rows.streams(lists, grants, "DATAGRAM", &datagram_capsule(1000));
+        rows.streams(lists, grants, "ROUTE_ADVERTISEMENT", &routes_capsule(Family::V6, 29));
     }
     println!("\nOne DATAGRAM capsule in pieces of 1 byte, microseconds; what 4 times the bytes take is a multiple of what the bytes take.\n");
     println!("| | 4,000 bytes | 1,000 bytes | quotient |");
     println!("|---|---:|---:|---:|");
-    growth_rows(&one, 4000, 1000);
+    growth_rows(one, 4000, 1000);
     println!("\n| | 16,000 bytes | 4,000 bytes | quotient |");
     println!("|---|---:|---:|---:|");
-    growth_rows(&one, 16000, 4000);
+    growth_rows(one, 16000, 4000);
+    println!("\nproved / Rust: {}; without 8 templates: {}", closing(ratios.all), closing(ratios.without_search));
 }
 
-fn tunnel_rows(lists: &str, grants: &Grants, length: usize, templates: &str, plan: &Plan) {
-    let packet = packet(length);
-    let datagram = send_row(lists, grants, &packet, templates, plan);
-    assert_eq!(datagram[0] == 0, templates == "0", "goes short where there is a template");
-
-    let (there, state) = (grants.mirrored(), mirrored(&state_of(grants, plan)));
-    let (mut out, mut other) = (vec![0; RECEIVE_ROOM], vec![0; RECEIVE_ROOM]);
-    let answer = Proved.receive(&state, &datagram, &mut out);
-    assert_eq!(receive(&there, plan, &datagram, &mut other), Ok(answer.length as usize));
-    assert_eq!((answer.number, answer.length), (0, length as u64));
-    assert_eq!(out, other);
-    let times = take_turns(
-        || Proved.receive(black_box(&state), black_box(&datagram), black_box(&mut out)).length as usize,
-        || receive(black_box(&there), black_box(plan), black_box(&datagram), black_box(&mut other)).unwrap_or(0),
-    );
-    row("receive", length, templates, lists, times);
+fn states(family: Family) -> [(&'static str, Grants); 3] {
+    [
+        ("1", grants(family, 1, 1)),
+        ("16/64", grants(family, 16, 64)),
+        ("full", grants(family, MAX_ADDRESSES, MAX_RANGES)),
+    ]
 }
 
-fn send_row(lists: &str, grants: &Grants, packet: &[u8], templates: &str, plan: &Plan) -> Vec<u8> {
-    let state = state_of(grants, plan);
-    let (mut out, mut other) = (vec![0; SEND_ROOM], vec![0; SEND_ROOM]);
-    let answer = Proved.send(&state, packet, &mut out);
-    assert_eq!(send(grants, plan, packet, &mut other), Ok(answer.length as usize));
-    assert_eq!(answer.number, 0);
-    assert_eq!(out, other);
-    let datagram = out[..answer.length as usize].to_vec();
-    let times = take_turns(
-        || Proved.send(black_box(&state), black_box(packet), black_box(&mut out)).length as usize,
-        || send(black_box(grants), black_box(plan), black_box(packet), black_box(&mut other)).unwrap_or(0),
-    );
-    row("send", packet.len(), templates, lists, times);
-    datagram
+fn closing(mut ratios: Vec<f64>) -> String {
+    ratios.sort_by(f64::total_cmp);
+    let rows = ratios.len();
+    format!("{rows} rows, worst {:.2}, median {:.2}", ratios[rows - 1], ratios[rows / 2])
 }
 
-fn capsule_rows(lists: &str, held: &Grants) {
-    let full = ipv6_lists();
-    let mut out = vec![0; CAPSULE_ROOM];
-    let mut capsules = Vec::new();
-    for count in [16, MAX_ADDRESSES] {
-        let length = write_assign(&AddressList { count, ..full.received_addresses }, &mut out).unwrap();
-        capsules.push((format!("assign of {count} IPv6 addresses"), out[..length].to_vec()));
+impl Rows<'_> {
+    fn count(&mut self, ratio: f64) {
+        self.ratios.all.push(ratio);
+        if !self.searches {
+            self.ratios.without_search.push(ratio);
+        }
     }
-    for count in [1, 16, MAX_ADDRESSES] {
-        let length = write_request(&AddressList { count, ..full.received_addresses }, &mut out).unwrap();
-        capsules.push((format!("request, IPv6 entries: {count}"), out[..length].to_vec()));
+
+    fn row(&mut self, call: &str, length: usize, templates: &str, lists: &str, (proved, rust, ratio): (f64, f64, f64)) {
+        self.count(ratio);
+        println!("| {call} | {length} | {templates} | {lists} | {proved:.0} | {rust:.0} | {ratio:.2} |");
     }
-    for count in [64, MAX_RANGES] {
-        capsules.push((format!("advertisement of {count} IPv6 ranges"), routes_capsule(count)));
-    }
-    let length = write_datagram(&packet(MAX_PACKET), &mut out).unwrap();
-    capsules.push(("datagram of 1,500 bytes".into(), out[..length].to_vec()));
-    for (name, bytes) in capsules {
-        // Each reading starts from the lists that the one before left: the first replaces them, then they are as long as the capsule's.
-        let mut state: State = state_of(held, &Plan::default());
-        let mut grants = *held;
-        let plan = Plan::default();
-        let mut requested = [0; ADDRESS_WORDS];
+
+    fn tunnel(&mut self, lists: &str, grants: &Grants, packet: &[u8], templates: &str, plan: &Plan) {
+        let datagram = self.send(lists, grants, packet, templates, plan);
+        assert_eq!(datagram[0] == 0, templates == "0", "goes short where there is a template");
+
+        let (there, state) = (grants.mirrored(), mirrored(&state_of(grants, plan)));
+        let (mut out, mut other) = (vec![0; RECEIVE_ROOM], vec![0; RECEIVE_ROOM]);
+        let answer = Proved.receive(&state, &datagram, &mut out);
+        assert_eq!(receive(&there, plan, &datagram, &mut other), Ok(answer.length as usize));
+        assert_eq!((answer.number, answer.length), (0, packet.len() as u64));
+        assert_eq!(out, other);
         let times = take_turns(
-            || {
-                let read = Proved.read_capsule(black_box(&mut state), black_box(&bytes), 0, black_box(&mut requested));
-                read.next as usize
-            },
-            || black_box(&mut grants).read_capsule(black_box(&plan), black_box(&bytes), 0).map_or(0, |(_, next)| next),
+            || Proved.receive(black_box(&state), black_box(&datagram), black_box(&mut out)).length as usize,
+            || receive(black_box(&there), black_box(plan), black_box(&datagram), black_box(&mut other)).unwrap_or(0),
         );
-        assert_eq!(state, state_of(&grants, &Plan::default()));
-        row(&name, bytes.len(), "", lists, times);
+        self.row("receive", packet.len(), templates, lists, times);
     }
-}
 
-fn over_the_limit(held: &Grants) {
-    let in_order: Vec<u64> = (1..=MOST_DIFFERENT as u64).collect();
-    let of_four: Vec<u64> = shuffled_ids(MOST_OF_FOUR).iter().map(|id| id << 14).collect();
-    let repeated: Vec<u64> = (0..MOST_ENTRIES as u64).map(|n| 1 + n % SHORT_IDS as u64).collect();
-    over_the_limit_row(held, "IDs differ, in order", &in_order, 7);
-    over_the_limit_row(held, "IDs differ, in any order", &shuffled_ids(MOST_DIFFERENT), 7);
-    over_the_limit_row(held, "IDs of 4 bytes, in any order", &of_four, 7);
-    over_the_limit_row(held, "IDs of 1 byte repeat", &repeated, 6);
-}
+    fn send(&mut self, lists: &str, grants: &Grants, packet: &[u8], templates: &str, plan: &Plan) -> Vec<u8> {
+        let state = state_of(grants, plan);
+        let (mut out, mut other) = (vec![0; SEND_ROOM], vec![0; SEND_ROOM]);
+        let answer = Proved.send(&state, packet, &mut out);
+        assert_eq!(send(grants, plan, packet, &mut other), Ok(answer.length as usize));
+        assert_eq!(answer.number, 0);
+        assert_eq!(out, other);
+        let datagram = out[..answer.length as usize].to_vec();
+        let times = take_turns(
+            || Proved.send(black_box(&state), black_box(packet), black_box(&mut out)).length as usize,
+            || send(black_box(grants), black_box(plan), black_box(packet), black_box(&mut other)).unwrap_or(0),
+        );
+        self.row("send", packet.len(), templates, lists, times);
+        datagram
+    }
 
-fn over_the_limit_row(held: &Grants, name: &str, ids: &[u64], refusal: u64) {
-    let (request, assign) = (numbered_entries(2, ids), numbered_entries(1, ids));
-    let mut state = state_of(held, &Plan::default());
-    let mut requested = [0; ADDRESS_WORDS];
-    let mut proved = |bytes: &[u8]| Proved.read_capsule(&mut state, bytes, 0, &mut requested).number as usize;
-    let (mut grants, plan) = (*held, Plan::default());
-    let mut rust =
-        |bytes: &[u8]| grants.read_capsule(&plan, bytes, 0).map_or_else(|refusal| refusal.number().into(), |_| 0);
-    assert_eq!((proved(&request), proved(&assign)), (refusal as usize, 7));
-    assert_eq!((rust(&request), rust(&assign)), (refusal as usize, 7));
-    let first = take_turns_of(&mut proved, &request, &assign);
-    let second = take_turns_of(&mut rust, &request, &assign);
-    let shown = |(request, assign, quotient): (f64, f64, f64)| {
-        format!("{:.1} | {:.1} | {quotient:.2}", request / 1e3, assign / 1e3)
-    };
-    let (_, _, ratio) = take_turns(|| proved(black_box(&request)), || rust(black_box(&request)));
-    println!("| {}, {name} | {} | {} | {} | {ratio:.2} |", ids.len(), request.len(), shown(first), shown(second));
+    fn capsules(&mut self, lists: &str, held: &Grants, family: Family) {
+        let full = network_lists(family);
+        let mut out = vec![0; CAPSULE_ROOM];
+        let mut capsules = Vec::new();
+        for count in [16, MAX_ADDRESSES] {
+            let length = write_assign(&AddressList { count, ..full.received_addresses }, &mut out).unwrap();
+            capsules.push((format!("assign of {count} addresses"), out[..length].to_vec()));
+        }
+        for count in [1, 16, MAX_ADDRESSES] {
+            let length = write_request(&AddressList { count, ..full.received_addresses }, &mut out).unwrap();
+            capsules.push((format!("request of {count} entries"), out[..length].to_vec()));
+        }
+        for count in [64, MAX_RANGES] {
+            capsules.push((format!("advertisement of {count} ranges"), routes_capsule(family, count)));
+        }
+        let length = write_datagram(&packet(family, MAX_PACKET), &mut out).unwrap();
+        capsules.push(("datagram of 1,500 bytes".into(), out[..length].to_vec()));
+        for (name, bytes) in capsules {
+            // Each reading starts from the lists that the one before left: the first replaces them, then they are as long as the capsule's.
+            let mut state: State = state_of(held, &Plan::default());
+            let mut grants = *held;
+            let plan = Plan::default();
+            let mut requested = [0; ADDRESS_WORDS];
+            let times = take_turns(
+                || {
+                    let read =
+                        Proved.read_capsule(black_box(&mut state), black_box(&bytes), 0, black_box(&mut requested));
+                    read.next as usize
+                },
+                || {
+                    black_box(&mut grants)
+                        .read_capsule(black_box(&plan), black_box(&bytes), 0)
+                        .map_or(0, |(_, next)| next)
+                },
+            );
+            assert_eq!(state, state_of(&grants, &Plan::default()));
+            self.row(&name, bytes.len(), "", lists, times);
+        }
+    }
+
+    fn over_the_limit(&mut self, held: &Grants) {
+        let in_order: Vec<u64> = (1..=MOST_DIFFERENT as u64).collect();
+        let of_four: Vec<u64> = shuffled_ids(MOST_OF_FOUR).iter().map(|id| id << 14).collect();
+        let repeated: Vec<u64> = (0..MOST_ENTRIES as u64).map(|n| 1 + n % SHORT_IDS as u64).collect();
+        self.over_the_limit_row(held, "IDs differ, in order", &in_order, 7);
+        self.over_the_limit_row(held, "IDs differ, in any order", &shuffled_ids(MOST_DIFFERENT), 7);
+        self.over_the_limit_row(held, "IDs of 4 bytes, in any order", &of_four, 7);
+        self.over_the_limit_row(held, "IDs of 1 byte repeat", &repeated, 6);
+    }
+
+    fn over_the_limit_row(&mut self, held: &Grants, name: &str, ids: &[u64], refusal: u64) {
+        let (request, assign) = (numbered_entries(2, ids), numbered_entries(1, ids));
+        let mut state = state_of(held, &Plan::default());
+        let mut requested = [0; ADDRESS_WORDS];
+        let mut proved = |bytes: &[u8]| Proved.read_capsule(&mut state, bytes, 0, &mut requested).number as usize;
+        let (mut grants, plan) = (*held, Plan::default());
+        let mut rust =
+            |bytes: &[u8]| grants.read_capsule(&plan, bytes, 0).map_or_else(|refusal| refusal.number().into(), |_| 0);
+        assert_eq!((proved(&request), proved(&assign)), (refusal as usize, 7));
+        assert_eq!((rust(&request), rust(&assign)), (refusal as usize, 7));
+        let first = take_turns_of(&mut proved, &request, &assign);
+        let second = take_turns_of(&mut rust, &request, &assign);
+        let shown = |(request, assign, quotient): (f64, f64, f64)| {
+            format!("{:.1} | {:.1} | {quotient:.2}", request / 1e3, assign / 1e3)
+        };
+        let (_, _, ratio) = take_turns(|| proved(black_box(&request)), || rust(black_box(&request)));
+        self.count(ratio);
+        println!("| {}, {name} | {} | {} | {} | {ratio:.2} |", ids.len(), request.len(), shown(first), shown(second));
+    }
+
+    fn streams(&mut self, lists: &str, held: &Grants, name: &str, capsule: &[u8]) {
+        let bytes = capsule.repeat(STREAM_CAPSULES);
+        for (pieces, size) in [("whole", bytes.len()), ("1,400", 1400), ("100", 100), ("1", 1)] {
+            let (mut proved, mut rust) = (Host::new(held), RustHost::new(held));
+            assert_eq!(proved.feed(&bytes, size), STREAM_CAPSULES);
+            assert_eq!(rust.feed(&bytes, size), STREAM_CAPSULES);
+            assert_eq!(proved.lent.state, state_of(&rust.grants, &rust.plan));
+            assert_eq!(proved.lent.out, rust.out);
+            let (proved, rust, ratio) = take_turns(|| proved.feed(&bytes, size), || rust.feed(&bytes, size));
+            self.count(ratio);
+            let (proved, rust) = (proved / 1e3, rust / 1e3);
+            println!("| {name} | {} | {pieces} | {lists} | {proved:.1} | {rust:.1} | {ratio:.2} |", capsule.len());
+        }
+    }
 }
 
 /// One call on two inputs.
@@ -252,20 +325,6 @@ impl RustHost {
     }
 }
 
-fn stream_rows(lists: &str, held: &Grants, name: &str, capsule: &[u8]) {
-    let bytes = capsule.repeat(STREAM_CAPSULES);
-    for (pieces, size) in [("whole", bytes.len()), ("1,400", 1400), ("100", 100), ("1", 1)] {
-        let (mut proved, mut rust) = (Host::new(held), RustHost::new(held));
-        assert_eq!(proved.feed(&bytes, size), STREAM_CAPSULES);
-        assert_eq!(rust.feed(&bytes, size), STREAM_CAPSULES);
-        assert_eq!(proved.lent.state, state_of(&rust.grants, &rust.plan));
-        assert_eq!(proved.lent.out, rust.out);
-        let (proved, rust, ratio) = take_turns(|| proved.feed(&bytes, size), || rust.feed(&bytes, size));
-        let (proved, rust) = (proved / 1e3, rust / 1e3);
-        println!("| {name} | {} | {pieces} | {lists} | {proved:.1} | {rust:.1} | {ratio:.2} |", capsule.len());
-    }
-}
-
 fn growth_rows(held: &Grants, long: usize, short: usize) {
     let (long, short) = (datagram_capsule(long), datagram_capsule(short));
     let (mut first, mut second) = (Host::new(held), Host::new(held));
@@ -317,8 +376,4 @@ fn timed(call: &mut impl FnMut() -> usize, count: u32) -> f64 {
 fn median(mut times: Vec<f64>) -> f64 {
     times.sort_by(f64::total_cmp);
     times[times.len() / 2]
-}
-
-fn row(call: &str, length: usize, templates: &str, lists: &str, (proved, rust, ratio): (f64, f64, f64)) {
-    println!("| {call} | {length} | {templates} | {lists} | {proved:.0} | {rust:.0} | {ratio:.2} |");
 }

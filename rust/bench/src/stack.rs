@@ -7,7 +7,7 @@ use std::hint::black_box;
 use std::ptr::{read_volatile, write_volatile};
 use std::thread;
 use whapirohi_bench::{
-    grants, ipv6_lists, numbered_entries, packet, plan, routes_capsule, shuffled_ids, Miss, MOST_DIFFERENT,
+    grants, network_lists, numbered_entries, packet, plan, routes_capsule, shuffled_ids, Family, Miss, MOST_DIFFERENT,
 };
 use whapirohi_differential::capsules::number_form;
 use whapirohi_differential::words::{address_words, mirrored, route_words, state_of};
@@ -106,7 +106,7 @@ fn main() {
 
 /// Full lists and 8 templates, of which the last fits the packet.
 fn full_state(templates: usize) -> Box<State> {
-    Box::new(state_of(&grants(MAX_ADDRESSES, MAX_RANGES), &plan(templates, Miss::EarlierPorts)))
+    Box::new(state_of(&grants(Family::V4, MAX_ADDRESSES, MAX_RANGES), &plan(Family::V4, templates, Miss::EarlierPorts)))
 }
 
 /// As many templates and segments as there may be, with checksums.
@@ -148,7 +148,7 @@ fn plans(depths: &mut Depths) {
 
 /// Capsules, and the number that each is answered with.
 fn capsules() -> Vec<(&'static str, u64, Vec<u8>)> {
-    let full = ipv6_lists();
+    let full = network_lists(Family::V6);
     let mut out = vec![0; CAPSULE_ROOM];
     let length = reference::write_datagram(&[0; MAX_VALUE], &mut out).unwrap();
     let datagram = out[..length].to_vec();
@@ -165,7 +165,7 @@ fn capsules() -> Vec<(&'static str, u64, Vec<u8>)> {
         ("skipped type", 0, skipped),
         ("full assign, IPv6", 0, assign),
         ("full request, IPv6", 0, request),
-        ("full routes, IPv6", 0, routes_capsule(MAX_RANGES)),
+        ("full routes, IPv6", 0, routes_capsule(Family::V6, MAX_RANGES)),
         ("assign over the limit", 7, numbered_entries(1, &too_many)),
         ("request over the limit", 7, numbered_entries(2, &too_many)),
         ("request over the limit, its last entry bad", 3, faulty),
@@ -197,7 +197,7 @@ fn pieces(depths: &mut Depths) {
 }
 
 fn writing(depths: &mut Depths) {
-    let Grants { received_addresses, received_routes, .. } = ipv6_lists();
+    let Grants { received_addresses, received_routes, .. } = network_lists(Family::V6);
     let addresses = address_words(&received_addresses);
     let routes = Box::new(route_words(&received_routes));
     let mut out = vec![0; CAPSULE_ROOM];
@@ -210,7 +210,7 @@ fn writing(depths: &mut Depths) {
 }
 
 fn packets(depths: &mut Depths) {
-    let packet = packet(MAX_PACKET);
+    let packet = packet(Family::V4, MAX_PACKET);
     let cases = [("in full", full_state(0)), ("by the last of 8 templates", full_state(MAX_TEMPLATES))];
     let (mut datagram, mut out) = (vec![0; SEND_ROOM], vec![0; RECEIVE_ROOM]);
     for (case, state) in &cases {

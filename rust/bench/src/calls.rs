@@ -1,0 +1,91 @@
+//! So many calls of one row, by the library or by the reference, and nothing else: for `scripts/instructions`, which counts what a call takes.
+//!
+//!     calls library|reference ROW CALLS
+
+use std::hint::black_box;
+use std::process::ExitCode;
+use whapirohi_bench::{grants, packet, plan, Family, Miss};
+use whapirohi_differential::subject::{Library, Subject};
+use whapirohi_differential::words::{mirrored, state_of};
+use whapirohi_reference::list::{MAX_ADDRESSES, MAX_RANGES};
+use whapirohi_reference::packet::MAX_PACKET;
+use whapirohi_reference::{receive, send};
+use whapirohi_tunnel::{RECEIVE_ROOM, SEND_ROOM};
+
+/// IPv4 all of them.
+struct Row {
+    name: &'static str,
+    sending: bool,
+    length: usize,
+    addresses: usize,
+    ranges: usize,
+    templates: usize,
+}
+
+const FIRST: Row = Row { name: "send-64-in-full", sending: true, length: 64, addresses: 1, ranges: 1, templates: 0 };
+
+const ROWS: [Row; 4] = [
+    FIRST,
+    Row { name: "receive-1500-in-full", sending: false, length: MAX_PACKET, ..FIRST },
+    Row { name: "send-64-by-a-template", templates: 1, ..FIRST },
+    Row { name: "send-64-full-lists", addresses: MAX_ADDRESSES, ranges: MAX_RANGES, ..FIRST },
+];
+
+fn main() -> ExitCode {
+    let words: Vec<String> = std::env::args().skip(1).collect();
+    let [subject, name, calls] = &words[..] else {
+        return usage();
+    };
+    let (Some(row), Ok(calls)) = (ROWS.iter().find(|row| row.name == name), calls.parse()) else {
+        return usage();
+    };
+    match subject.as_str() {
+        "library" => by_library(row, calls),
+        "reference" => by_reference(row, calls),
+        _ => return usage(),
+    }
+    ExitCode::SUCCESS
+}
+
+fn usage() -> ExitCode {
+    eprintln!("usage: calls library|reference ROW CALLS, where ROW is one of");
+    ROWS.iter().for_each(|row| eprintln!("    {}", row.name));
+    ExitCode::from(2)
+}
+
+fn by_library(row: &Row, calls: u32) {
+    let &Row { sending, length, addresses, ranges, templates, .. } = row;
+    let plan = plan(Family::V4, templates, Miss::EarlierPorts);
+    let state = state_of(&grants(Family::V4, addresses, ranges), &plan);
+    let there = mirrored(&state);
+    let packet = packet(Family::V4, length);
+    let (mut datagram, mut out) = (vec![0; SEND_ROOM], vec![0; RECEIVE_ROOM]);
+    let sent = Library.send(&state, &packet, &mut datagram);
+    assert_eq!(sent.number, 0);
+    for _ in 0..calls {
+        if sending {
+            black_box(Library.send(black_box(&state), black_box(&packet), black_box(&mut datagram)));
+        } else {
+            let bytes = &datagram[..sent.length as usize];
+            black_box(Library.receive(black_box(&there), black_box(bytes), black_box(&mut out)));
+        }
+    }
+}
+
+fn by_reference(row: &Row, calls: u32) {
+    let &Row { sending, length, addresses, ranges, templates, .. } = row;
+    let plan = plan(Family::V4, templates, Miss::EarlierPorts);
+    let here = grants(Family::V4, addresses, ranges);
+    let there = here.mirrored();
+    let packet = packet(Family::V4, length);
+    let (mut datagram, mut out) = (vec![0; SEND_ROOM], vec![0; RECEIVE_ROOM]);
+    let sent = send(&here, &plan, &packet, &mut datagram).expect("a packet that passes");
+    for _ in 0..calls {
+        if sending {
+            let _ = black_box(send(black_box(&here), black_box(&plan), black_box(&packet), black_box(&mut datagram)));
+        } else {
+            let bytes = &datagram[..sent];
+            let _ = black_box(receive(black_box(&there), black_box(&plan), black_box(bytes), black_box(&mut out)));
+        }
+    }
+}
