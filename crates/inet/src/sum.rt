@@ -109,6 +109,21 @@ pub fn sum_quads(s: &[u8]) -> u64
     acc
 }
 
+// The most bytes that are summed by quads: a loop over vectors takes longer to start than so few bytes take.
+const SHORT: usize = 60;
+
+// A number that folds to what the words of s fold to: of few bytes by quads, of many by blocks.
+pub fn sum_bytes(s: &[u8]) -> u64
+    requires { ⌜ length (now s) ≤ 65535 ⌝ }
+    ensures { λ r. ⌜ (fold r ≡ fold (words (now (s .entry)))) × (r < 2199023255552) ⌝ }
+{
+    if s.len() <= SHORT {
+        let n = s.len() / 4 * 4;
+        return sum_quads(&s[..n]) + sum_pairs(&s[n..]);
+    }
+    sum_words(s)
+}
+
 // A sum folded to 16 bits.
 pub fn folded(sum: u64) -> u64
     ensures { λ r. ⌜ (r ≡ fold sum) × (r ≤ 65535) ⌝ }
