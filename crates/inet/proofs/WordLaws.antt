@@ -45,6 +45,13 @@ fold-high (suc a) x =
     let e : x + 65536 * suc a ≡ (x + suc a) + 65535 * suc a = omega arith in
     ap fold e ∙ fold-past (x + suc a) (suc a) (omega arith)
 
+-- a part of at most 65535 is taken away by adding what it lacks of 65535, where something else counts
+pub fold-less : (a w own k : ℕ) → own ≤ 65535 → own ≤ w → 0 < k → fold a ≡ fold w → fold (a + (65535 - own) + k) ≡ fold (w - own + k)
+fold-less a w own k h l z e =
+    let x : a + (65535 - own) + k ≡ a + (65535 - own + k) = omega arith in
+    let y : w + (65535 - own + k) ≡ w - own + k + 65535 * 1 = omega arith in
+    ap fold x ∙ fold-cong a w (65535 - own + k) e ∙ ap fold y ∙ fold-past (w - own + k) 1 (omega arith)
+
 -- the words from i on are the word at i and the words from i + 2 on
 pub words-step : (s : List ℕ) (i : ℕ) → i + 1 < length s → words (drop i s) ≡ getD s i 0 * 256 + getD s (i + 1) 0 + words (drop (i + 2) s)
 unfolding words

@@ -1,6 +1,6 @@
 -- What the code adds up for the right checksum of a packet, and its three ends. Assumes nothing.
 use Prim.Native.Nat.{ℕ, zero, suc, _+_, _-_, _*_, _%_, _≤_, _<_}
-use mathlib.Core.Path.{_≡_, ap, _∙_}
+use mathlib.Core.Path.{_≡_, sym, ap, _∙_}
 use mathlib.Core.List.{List, [], _∷_}
 use mathlib.Core.Bool.{false}
 use native.Mathlib.Omega.{arith}
@@ -10,8 +10,10 @@ use lib.Seq.{getD-drop}
 use borrow.Author.Tests.{le-leb, lt-leb}
 use Rattle.octets.proofs.Parts.{tail}
 use Rattle.inet.specs.Sum.{words, fold}
+use Rattle.inet.specs.SumLaws.{fold-fits}
 use Rattle.inet.specs.Packet.{protocolByte, put16, lowered}
-use Rattle.inet.specs.Transport.{seed, setField, sent, finish, completion, fieldIs}
+use Rattle.inet.specs.Transport.{pseudoSum, seed, setField, sent, finish, completion, fieldIs}
+use Rattle.inet.proofs.WordLaws.{fold-pos, fold-less}
 use Rattle.inet.proofs.FieldLaws.{words-put, drop-put-from}
 use Rattle.inet.proofs.LoweredLaws.{lowered-length}
 use Rattle.inet.proofs.TransportLaws.{sent-udp, sent-other, sent-nonzero, setField-protocolByte, lowered-fieldIs, lowered-completion}
@@ -32,15 +34,24 @@ words-less : (l : List ℕ) (i : ℕ) → i % 2 ≡ 0 → i + 1 < length l → w
 unfolding put16
 words-less l i e h = rw add-one (less-suc l i e (omega arith))
 
-pub record Summed (p : List ℕ) (field start first own all : ℕ) : Type 0 where
-  pub counted : own ≤ all
-  pub same : words (drop start (setField field (seed start p) p)) ≡ all - own + first
+-- the seed of a packet that goes on behind start is above 0: its length less start counts
+seed-pos : (start : ℕ) (p : List ℕ) → start < length p → 0 < seed start p
+unfolding seed
+seed-pos start p h = fold-pos (pseudoSum start p) (omega arith)
 
--- the words from start on, with the seed in place of what stands in the field
+-- a seed fits in 16 bits
+pub seed-fits : (start : ℕ) (p : List ℕ) → seed start p ≤ 65535
+unfolding seed
+seed-fits start p = omega (arith, fold-fits (pseudoSum start p))
+
+-- what the code adds up folds as the words from start on, with the seed in place of what stands in the field
+pub record Summed (p : List ℕ) (field start first own all : ℕ) : Type 0 where
+  pub same : fold (words (drop start (setField field (seed start p) p))) ≡ fold (all + (65535 - own) + first)
+
 pub summed : (p : List ℕ) (field start : ℕ) → SumPlace field start → field + 2 ≤ length p → {first hi lo own all : ℕ} → first ≡ seed start p
-    → hi ≡ getD p field 0 → lo ≡ getD p (field + 1) 0 → own ≡ hi * 256 + lo → all ≡ words (take (length p - start) (drop start p))
+    → hi ≡ getD p field 0 → lo ≡ getD p (field + 1) 0 → own ≡ hi * 256 + lo → own ≤ 65535 → fold all ≡ fold (words (take (length p - start) (drop start p)))
     → Summed p field start first own all
-summed p field start place room {first} {hi} {lo} {own} {all} s a b o w =
+summed p field start place room {first} {hi} {lo} {own} {all} s a b o fits w =
     let t = drop start p in
     let i = field - start in
     let l : i + 1 < length t = omega (arith, length-drop start p) in
@@ -48,13 +59,15 @@ summed p field start place room {first} {hi} {lo} {own} {all} s a b o w =
     let e1 : start + (i + 1) ≡ field + 1 = omega arith in
     let ga : getD t i 0 ≡ getD p field 0 = getD-drop start p i 0 ∙ ap (λ (n : ℕ). getD p n 0) e in
     let gb : getD t (i + 1) 0 ≡ getD p (field + 1) 0 = getD-drop start p (i + 1) 0 ∙ ap (λ (n : ℕ). getD p n 0) e1 in
-    let wt : all ≡ words t = w ∙ ap words (tail start p) in
     let u = words-less t i (place .even) l in
     let v = words-put t i (seed start p) (place .even) l in
     let d : words (drop start (setField field (seed start p) p)) ≡ words (put16 t i (seed start p)) = ap words (drop-put-from p start field (seed start p) (place .order)) in
-    record { counted = omega arith; same = d ∙ v ∙ omega arith }
+    let z : words (put16 t i (seed start p)) ≡ words t - own + first = omega arith in
+    let counted : own ≤ words t = omega arith in
+    let pos : 0 < first = omega (arith, seed-pos start p (omega arith)) in
+    record { same = ap fold (d ∙ z) ∙ sym (fold-less all (words t) own first fits counted pos (w ∙ ap (λ (x : List ℕ). fold (words x)) (tail start p))) }
 
-module _ (p : List ℕ) (field start : ℕ) (place : SumPlace field start) {first own all f : ℕ} (s : Summed p field start first own all) (folded : f ≡ fold (all - own + first)) where
+module _ (p : List ℕ) (field start : ℕ) (place : SumPlace field start) {first own all f : ℕ} (s : Summed p field start first own all) (folded : f ≡ fold (all + (65535 - own) + first)) where
   completion-steps : completion field start p ≡ sent (protocolByte p) (65535 - f)
   unfolding completion finish
   completion-steps = rw (s .same, ← folded, setField-protocolByte field (seed start p) p (omega arith))

@@ -3,7 +3,7 @@ ghost use mathlib.Core.Path.{_≡_};
 ghost use Prim.Native.Nat.{_≤_, _<_, _+_};
 ghost use lib.ListN.{length, take};
 ghost use Rattle.inet.specs.Packet.{lowered};
-ghost use Rattle.inet.specs.Transport.{completion};
+ghost use Rattle.inet.specs.Transport.{seed, completion};
 ghost use Rattle.table.specs.Limits.{staticLimit};
 ghost use Rattle.table.specs.Templates.{sumAt};
 ghost use Rattle.table.specs.Words.{templateWords, templateOf};
@@ -15,7 +15,7 @@ use inet::field::put_word;
 use inet::packet::byte_at;
 use inet::packet::protocol_byte;
 use inet::sum::folded;
-use inet::sum::sum_words;
+use inet::sum::sum_bytes;
 use inet::sum::word;
 use inet::transport::seed;
 use table::judged_head;
@@ -29,7 +29,8 @@ pub(crate) fn sum_fits(packet: &[u8], field: usize, start: usize) -> bool
     if packet.len() < field + 2 {
         return false;
     }
-    let v = completion(packet, field, start);
+    let first = seed(packet, start);
+    let v = completion(packet, field, start, first);
     field_is(packet, field, v)
 }
 
@@ -47,18 +48,18 @@ pub fn put_seed(t: &[u64], packet: &[u8], front: &mut [u8])
 }
 
 // The right checksum: the words from start on, with the seed counted in place of what stands in the field. UDP sends a 0 as 65535.
-fn completion(packet: &[u8], field: usize, start: usize) -> u64
+fn completion(packet: &[u8], field: usize, start: usize, first: u64) -> u64
     requires { ⌜ Testable (now packet) ⌝ }
     requires { ⌜ SumPlace field start ⌝ }
-    requires { ⌜ field + 2 ≤ length (now packet) ⌝ }
+    requires { ⌜ (field + 2 ≤ length (now packet)) × (first ≡ seed start (now packet)) ⌝ }
     ensures { λ r. ⌜ (r ≡ completion field start (now (packet .entry))) × (r ≤ 65535) ⌝ }
 {
-    let first = seed(packet, start);
     let hi = byte_at(packet, field);
     let lo = byte_at(packet, field + 1);
     let own = word(hi, lo);
-    let all = sum_words(&packet[start..]);
-    let v = 65535 - folded(all - own + first);
+    let all = sum_bytes(&packet[start..]);
+    // 65535 counts as 0 in a sum that folds: so `own` is taken away without asking whether it is in `all`
+    let v = 65535 - folded(all + (65535 - own) + first);
     if v == 0 {
         if protocol_byte(packet) == 17 {
             return 65535;

@@ -1,20 +1,17 @@
--- The words from start on, less the field's own, plus the seed, are the words with the seed in the field: `summed`. Assumes nothing.
+-- The words from start on, the field's own taken away, and the seed fold as the words with the seed in the field: `summed`. Assumes nothing.
 use mathlib.Core.Path.{sym}
 use native.Mathlib.Omega.{arith}
-use Rattle.template.proofs.CompletionLaws.{Summed, summed, completion-udp, completion-other, completion-nonzero}
+use Rattle.template.proofs.CompletionLaws.{seed-fits, Summed, summed, completion-udp, completion-other, completion-nonzero}
 use borrow.Author.Needs.{needs}
 use Rattle.template.proofs.checksum.completion.Statement.{statement}
 use Rattle.template.proofs.checksum.completion.Tie as tie
 
-abbrev Start : tie.After-sum-words → tie.Start
-Start c = c .before .before .before .before .before .before .before
+abbrev Start : tie.After-sum-bytes → tie.Start
+Start c = c .before .before .before .before .before .before
 
-the-sum : (c : tie.After-sum-words) → Summed (Start c .args .packet .now) (Start c .args .field) (Start c .args .start) (c .before .before .before .before .before .seed .result) (c .before .before .word .result) (c .sum-words .result)
+the-sum : (c : tie.After-sum-bytes) → Summed (Start c .args .packet .now) (Start c .args .field) (Start c .args .start) (Start c .args .first) (c .before .before .word .result) (c .sum-bytes .result)
 the-sum c =
-    summed _ _ _ (Start c .pre .1 .0) (Start c .pre .1 .1) (c .before .before .before .before .before .seed .ensures .0) (c .before .before .before .before .byte-at .ensures) (c .before .before .before .byte-at2 .ensures) (c .before .before .word .ensures .0) (c .sum-words .ensures .0)
-
-seed-requires : tie.Need-seed-requires
-seed-requires c κs = search needs
+    summed _ _ _ (Start c .pre .1 .0) (Start c .pre .1 .1 .0) (Start c .pre .1 .1 .1) (c .before .before .before .before .byte-at .ensures) (c .before .before .before .byte-at2 .ensures) (c .before .before .word .ensures .0) (c .before .before .word .ensures .1) (c .sum-bytes .ensures .0)
 
 byte-at-requires : tie.Need-byte-at-requires
 byte-at-requires c κs = search needs
@@ -28,23 +25,26 @@ byte-at-requires-2 c κs = search needs
 word-requires : tie.Need-word-requires
 word-requires c κs = search needs
 
-sub-sum-words : tie.Need-sub-sum-words
-sub-sum-words c = search needs
+sub-sum-bytes : tie.Need-sub-sum-bytes
+sub-sum-bytes c = search needs
 
-part-sum-words-start : tie.Need-part-sum-words-start
-part-sum-words-start c = search needs
+part-sum-bytes-start : tie.Need-part-sum-bytes-start
+part-sum-bytes-start c = search needs
 
-part-sum-words-end : tie.Need-part-sum-words-end
-part-sum-words-end c = search needs
+part-sum-bytes-end : tie.Need-part-sum-bytes-end
+part-sum-bytes-end c = search needs
 
-sum-words-requires : tie.Need-sum-words-requires
-sum-words-requires c κs = search needs
+sum-bytes-requires : tie.Need-sum-bytes-requires
+sum-bytes-requires c κs = search needs
 
 sub-folded : tie.Need-sub-folded
-sub-folded c = the-sum c .counted
+sub-folded c = search needs
 
 add-folded : tie.Need-add-folded
 add-folded c = search needs
+
+add-folded-2 : tie.Need-add-folded-2
+add-folded-2 c = omega (arith, seed-fits (Start c .args .start) (Start c .args .packet .now))
 
 folded-requires : tie.Need-folded-requires
 folded-requires c κs = search needs
@@ -74,17 +74,17 @@ pub completion-spec : {M : Type 1} → statement M
 completion-spec =
     tie.close
     (tie.spec
-    seed-requires
     byte-at-requires
     add-byte-at
     byte-at-requires-2
     word-requires
-    sub-sum-words
-    part-sum-words-start
-    part-sum-words-end
-    sum-words-requires
+    sub-sum-bytes
+    part-sum-bytes-start
+    part-sum-bytes-end
+    sum-bytes-requires
     sub-folded
     add-folded
+    add-folded-2
     folded-requires
     sub-v
     protocol-byte-requires
