@@ -5,14 +5,14 @@ use mathlib.Core.List.{List}
 use mathlib.Core.Bool.{true, false}
 use native.Mathlib.Omega.{arith}
 use lib.ListN.{length, take}
-use Rattle.inet.specs.Transport.{seed, setField, finish}
+use Rattle.inet.specs.Transport.{setField, finish}
 use Rattle.inet.proofs.FieldLaws.{put-take, setField-length}
 use Rattle.table.specs.Words.{templateOf, headOf}
 use Rattle.table.specs.declared.Head.{Head}
 use Rattle.table.specs.Templates.{staticSize}
 use Rattle.template.specs.Pieces.{weave}
-use Rattle.template.specs.Datagrams.{seeded, rebuilt}
-use Rattle.template.specs.Usable.{piecesOf, Seedable, Rebuildable, Weavable, Completable, Begins}
+use Rattle.template.specs.Datagrams.{rebuilt}
+use Rattle.template.specs.Usable.{piecesOf, Fillable, filled, Rebuildable, Weavable, Completable, Begins}
 use Rattle.template.proofs.PieceLaws.{length-weave}
 use Rattle.template.proofs.Steps.{sum-facts}
 use Rattle.template.proofs.Sizes.{reaches-end, reaches-field}
@@ -63,19 +63,16 @@ module _ (t v : List ℕ) {n : ℕ} (ready : Rebuildable t v n) where
                 ∙ ap (λ (x : List ℕ). setField (headOf t .field) (finish (headOf t .start) x) x) (b .front) ∙ sym s;
           }
 
--- the seed in the field of a template with a checksum
-module _ (t p : List ℕ) {head : Head} (known : head ≡ headOf t) where
-  pub seeded-plain : head .checksum ≡ false → p ≡ seeded (templateOf t .sum) p
+-- a number in the field of a template with a checksum
+module _ (t p : List ℕ) (v : ℕ) {head : Head} (known : head ≡ headOf t) where
+  pub filled-plain : head .checksum ≡ false → p ≡ filled (templateOf t .sum) v p
   unfolding templateOf
-  seeded-plain e = rw (rw known at e)
+  filled-plain e = rw (rw known at e)
 
-  pub seeded-sum : {v : ℕ} {q : List ℕ} → head .checksum ≡ true → v ≡ seed (head .start) p → q ≡ setField (head .field) v p → q ≡ seeded (templateOf t .sum) p
+  pub filled-sum : {q : List ℕ} → head .checksum ≡ true → q ≡ setField (head .field) v p → q ≡ filled (templateOf t .sum) v p
   unfolding templateOf
-  seeded-sum e f g = rw (rw known at e) (rw known at g ∙ ap (λ (x : ℕ). setField (headOf t .field) x p) (rw known at f))
+  filled-sum e g = rw (rw known at e) (rw known at g)
 
-  pub seedable-inside : Seedable t p → head .checksum ≡ true → head .field + 2 ≤ length p
+  pub fillable-inside : Fillable t v p → head .checksum ≡ true → head .field + 2 ≤ length p
   unfolding templateOf
-  seedable-inside s e = rw known (rw (rw known at e) at (s .inside))
-
-  pub seedable-order : Seedable t p → head .checksum ≡ true → head .start ≤ head .field
-  seedable-order s e = rw known (sum-facts t (s .usable .sound) (rw known at e) .order)
+  fillable-inside s e = rw known (rw (rw known at e) at (s .inside))

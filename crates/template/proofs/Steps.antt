@@ -1,8 +1,8 @@
 -- One step of each definition, at the code's index. Assumes nothing.
-use Prim.Native.Nat.{ℕ, _+_, _-_, _*_, _≤_, _<_}
-use mathlib.Core.Path.{_≡_, ap, _∙_}
+use Prim.Native.Nat.{ℕ, zero, suc, _+_, _-_, _*_, _≤_, _<_}
+use mathlib.Core.Path.{_≡_, sym, ap, _∙_}
 use mathlib.Core.List.{List, [], _∷_, map}
-use mathlib.Core.Bool.{Bool, true, false, _&&_}
+use mathlib.Core.Bool.{Bool, true, false, _&&_, and-assoc}
 use native.Mathlib.Numerals.{add-one}
 use native.Mathlib.Omega.{arith}
 use lib.ListN.{length, take, drop, getD, length-take, length-drop}
@@ -17,9 +17,9 @@ use Rattle.table.specs.Limits.{maxTemplates}
 use Rattle.table.specs.Words.{templateWords, tableWords, window, pieceOf, segmentAt, templateOf, countIn, wordsAt, byteAt, headOf}
 use Rattle.table.proofs.Judging.{words-at}
 use Rattle.table.proofs.InTurn.{templatesFrom, templates-step, templates-done}
-use Rattle.template.specs.Pieces.{begins, fitsPieces}
+use Rattle.template.specs.Pieces.{fitsPieces}
 use Rattle.template.specs.Fits.{fitsSum, fits, full, short, firstFit, withId, listed, missing}
-use Rattle.template.specs.Usable.{piecesOf, SumPlace}
+use Rattle.template.specs.Usable.{piecesOf, SumPlace, holdsAt}
 
 -- ---- the segments of a template
 
@@ -52,7 +52,7 @@ fits-short t p j n h s =
     rw (pieces-step t j n h, window-length t (segmentAt t j .offset) (segmentAt t j .length), lt-leb _ _ s)
 
 -- it is not, so the bytes decide, and then the segments after
-pub fits-long : (t p : List ℕ) (j n : ℕ) → j < n → (off len : ℕ) → segmentAt t j .offset ≡ off → segmentAt t j .length ≡ len → off + len ≤ length p → fitsPieces (piecesFrom t j (n - j)) p ≡ (begins (window t off (off + len - off)) (drop off p) && fitsPieces (piecesFrom t (j + 1) (n - (j + 1))) p)
+pub fits-long : (t p : List ℕ) (j n : ℕ) → j < n → (off len : ℕ) → segmentAt t j .offset ≡ off → segmentAt t j .length ≡ len → off + len ≤ length p → fitsPieces (piecesFrom t j (n - j)) p ≡ (holdsAt t p off (off + len) && fitsPieces (piecesFrom t (j + 1) (n - (j + 1))) p)
 unfolding fitsPieces
 fits-long t p j n h off len eo el s =
     let d : off + len - off ≡ len = omega arith in
@@ -66,17 +66,30 @@ fits-done t p j n h = rw (pieces-done t j n h)
 -- ---- the bytes of a segment
 
 module _ (t p : List ℕ) (k e : ℕ) where
-  begins-step : k < e → k < length p → begins (window t k (e - k)) (drop k p) ≡ (eqb (getD p k 0) (byteAt t k) && begins (window t (k + 1) (e - (k + 1))) (drop (k + 1) p))
-  begins-step h l = rw (from-more (byteAt t) k e h, drop-cons p k 0 l, add-one k)
+  pub holds-step : k < e → k < length p → holdsAt t p k e ≡ (eqb (getD p k 0) (byteAt t k) && holdsAt t p (k + 1) e)
+  holds-step h l = rw (from-more (byteAt t) k e h, drop-cons p k 0 l, add-one k)
 
-  pub begins-same : k < e → k < length p → getD p k 0 ≡ byteAt t k → begins (window t k (e - k)) (drop k p) ≡ begins (window t (k + 1) (e - (k + 1))) (drop (k + 1) p)
-  begins-same h l q = begins-step h l ∙ rw (eq-eqb _ _ q)
+  pub holds-same : k < e → k < length p → getD p k 0 ≡ byteAt t k → holdsAt t p k e ≡ holdsAt t p (k + 1) e
+  holds-same h l q = holds-step h l ∙ rw (eq-eqb _ _ q)
 
-  pub begins-other : k < e → k < length p → (getD p k 0 ≡ byteAt t k → ⊥) → begins (window t k (e - k)) (drop k p) ≡ false
-  begins-other h l q = begins-step h l ∙ rw (ne-eqb _ _ q)
+  pub holds-other : k < e → k < length p → (getD p k 0 ≡ byteAt t k → ⊥) → holdsAt t p k e ≡ false
+  holds-other h l q = holds-step h l ∙ rw (ne-eqb _ _ q)
 
-  pub begins-done : e ≤ k → begins (window t k (e - k)) (drop k p) ≡ true
-  begins-done h = rw (from-end (byteAt t) k e h)
+  pub holds-done : e ≤ k → holdsAt t p k e ≡ true
+  holds-done h = rw (from-end (byteAt t) k e h)
+
+module _ (t p : List ℕ) where
+  -- n bytes, and then those up to e
+  holds-count : (n k m e : ℕ) → m ≡ k + n → m ≤ e → m ≤ length p → holdsAt t p k e ≡ (holdsAt t p k m && holdsAt t p m e)
+  holds-count zero k m e q h l = let s : m ≡ k = omega arith in rw (s, holds-done t p k k (omega arith))
+  holds-count (suc n) k m e q h l =
+      let first = eqb (getD p k 0) (byteAt t k) in
+      holds-step t p k e (omega arith) (omega arith) ∙ ap (λ (b : Bool). first && b) (holds-count n (k + 1) m e (omega arith) h l)
+      ∙ sym (and-assoc first (holdsAt t p (k + 1) m) (holdsAt t p m e)) ∙ ap (λ (b : Bool). b && holdsAt t p m e) (sym (holds-step t p k m (omega arith) (omega arith)))
+
+  -- what was found of the bytes up to m decides first, and then those behind
+  pub holds-then : (k m e : ℕ) {a b : Bool} → k ≤ m → m ≤ e → m ≤ length p → a ≡ holdsAt t p k m → a ≡ b → holdsAt t p k e ≡ (b && holdsAt t p m e)
+  holds-then k m e i h l q r = holds-count (m - k) k m e (omega arith) h l ∙ rw (← q, r)
 
 -- ---- a template
 

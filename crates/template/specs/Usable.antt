@@ -1,41 +1,55 @@
 -- What the code asks of a table and what it hands back.
 use Prim.Native.Nat.{ℕ, _+_, _-_, _%_, _≤_, _<_}
 use mathlib.Core.Path.{_≡_}
-use mathlib.Core.Bool.{true}
+use mathlib.Core.Bool.{Bool, true}
 use mathlib.Core.List.{List}
-use lib.ListN.{length, take}
+use lib.ListN.{length, take, drop}
 use Rattle.inet.specs.Packet.{Form, lowered}
+use Rattle.inet.specs.Transport.{seed, setField}
 use Rattle.table.specs.Limits.{staticLimit}
-use Rattle.table.specs.Templates.{Piece, staticSize}
-use Rattle.table.specs.Words.{templateOf, countIn, wordsAt}
+use Rattle.table.specs.Templates.{Piece, Sum, noSum, sumAt, staticSize}
+use Rattle.table.specs.Words.{window, templateOf, countIn, wordsAt, templatesOf}
 use Rattle.table.specs.Sound.{UsableTemplate}
 use Rattle.template.specs.declared.Found.{Found}
 use Rattle.template.specs.declared.Found.the-variants.{At, Nothing}
-use Rattle.template.specs.Pieces.{lastEnd}
-use Rattle.template.specs.Fits.{Choice, full, short, Lookup, missing, listed}
+use Rattle.template.specs.declared.Fit.{Fit}
+use Rattle.template.specs.declared.Fit.the-variants.{By, None}
+use Rattle.template.specs.Pieces.{begins, lastEnd}
+use Rattle.template.specs.Fits.{full, short, firstFit, Lookup, missing, listed}
 use Rattle.template.specs.Datagrams.{sumEnd, reaches}
 
 -- ---- the search
 
--- the template that was found
-abbrev pub choiceAt : List ℕ → Found → Choice
-choiceAt w (At i) = short (templateOf (wordsAt w i))
-choiceAt w Nothing = full
+-- the bytes of p from k to e are the static bytes of these positions
+abbrev pub holdsAt : List ℕ → List ℕ → ℕ → ℕ → Bool
+holdsAt t p k e = begins (window t k (e - k)) (drop k p)
+
+-- the seed of a packet under a checksum; 0 under none
+abbrev pub seedOf : Sum → List ℕ → ℕ
+seedOf noSum p = 0
+seedOf (sumAt field start) p = seed start p
+
+-- the template at i is the first that fits, and v the seed under its checksum
+pub record ChosenAt (w p : List ℕ) (i v : ℕ) : Type 0 where
+  pub choice : firstFit (templatesOf w) p ≡ short (templateOf (wordsAt w i))
+  pub within : i < countIn w
+  pub seeding : v ≡ seedOf (templateOf (wordsAt w i) .sum) p
+
+-- the search found what it should for the packet p
+abbrev pub Chosen : List ℕ → List ℕ → Fit → Type 0
+Chosen w p (By i v) = ChosenAt w p i v
+Chosen w p None = firstFit (templatesOf w) p ≡ full
+
+-- the template that the search for a Context ID found
+abbrev pub lookupAt : List ℕ → Found → Lookup
+lookupAt w (At i) = listed (templateOf (wordsAt w i))
+lookupAt w Nothing = missing
 
 abbrev pub Below : ℕ → Found → Type 0
 Below n (At i) = i < n
 Below n Nothing = Unit
 
--- the search found what it should, at a place in use
-pub record Chosen (w : List ℕ) (c : Choice) (r : Found) : Type 0 where
-  pub choice : choiceAt w r ≡ c
-  pub within : Below (countIn w) r
-
--- the same of the search for a Context ID
-abbrev pub lookupAt : List ℕ → Found → Lookup
-lookupAt w (At i) = listed (templateOf (wordsAt w i))
-lookupAt w Nothing = missing
-
+-- it found what it should, at a place in use
 pub record Listed (w : List ℕ) (l : Lookup) (r : Found) : Type 0 where
   pub lookup : lookupAt w r ≡ l
   pub within : Below (countIn w) r
@@ -59,11 +73,16 @@ pub record Fronted (front p : List ℕ) : Type 0 where
   pub testable : Testable p
   pub bytes : front ≡ take staticLimit (lowered p)
 
--- the field lies in the packet
-pub record Seedable (t p : List ℕ) : Type 0 where
+-- v in the field of a checksum
+abbrev pub filled : Sum → ℕ → List ℕ → List ℕ
+filled noSum v p = p
+filled (sumAt field start) v p = setField field v p
+
+-- the field lies in the front, and v fits it
+pub record Fillable (t : List ℕ) (v : ℕ) (front : List ℕ) : Type 0 where
   pub usable : UsableTemplate t
-  pub testable : Testable p
-  pub inside : sumEnd (templateOf t .sum) ≤ length p
+  pub small : v ≤ 65535
+  pub inside : sumEnd (templateOf t .sum) ≤ length front
 
 -- ---- the bytes outside the segments
 

@@ -1,15 +1,12 @@
 // The checksum of a template: whether a packet's own is the right one, and the seed in its place.
 ghost use mathlib.Core.Path.{_≡_};
-ghost use Prim.Native.Nat.{_≤_, _<_, _+_};
-ghost use lib.ListN.{length, take};
-ghost use Rattle.inet.specs.Packet.{lowered};
+ghost use Prim.Native.Nat.{_≤_, _+_};
+ghost use lib.ListN.{length};
 ghost use Rattle.inet.specs.Transport.{seed, completion};
-ghost use Rattle.table.specs.Limits.{staticLimit};
 ghost use Rattle.table.specs.Templates.{sumAt};
 ghost use Rattle.table.specs.Words.{templateWords, templateOf};
 ghost use Rattle.template.specs.Fits.{fitsSum};
-ghost use Rattle.template.specs.Datagrams.{seeded};
-ghost use Rattle.template.specs.Usable.{Testable, SumPlace, Seedable};
+ghost use Rattle.template.specs.Usable.{Testable, SumPlace, Fillable, filled};
 use inet::field::field_is;
 use inet::field::put_word;
 use inet::packet::byte_at;
@@ -17,32 +14,27 @@ use inet::packet::protocol_byte;
 use inet::sum::folded;
 use inet::sum::sum_bytes;
 use inet::sum::word;
-use inet::transport::seed;
 use table::judged_head;
 
-// Whether the field lies in the packet and holds the right checksum.
-pub(crate) fn sum_fits(packet: &[u8], field: usize, start: usize) -> bool
+// Whether the field holds the right checksum. The seed is handed in, since what is sent holds it too.
+pub(crate) fn sum_fits(packet: &[u8], field: usize, start: usize, first: u64) -> bool
     requires { ⌜ Testable (now packet) ⌝ }
     requires { ⌜ SumPlace field start ⌝ }
+    requires { ⌜ (field + 2 ≤ length (now packet)) × (first ≡ seed start (now packet)) ⌝ }
     ensures { λ r. ⌜ r ≡ fitsSum (sumAt field start) (now (packet .entry)) ⌝ }
 {
-    if packet.len() < field + 2 {
-        return false;
-    }
-    let first = seed(packet, start);
     let v = completion(packet, field, start, first);
     field_is(packet, field, v)
 }
 
-// Puts the seed of a packet into the field of a template, where it has a checksum: the field lies in the packet's front.
-pub fn put_seed(t: &[u64], packet: &[u8], front: &mut [u8])
+// Puts the seed into the field of a template, where it has a checksum: the field lies in a packet's front.
+pub fn put_seed(t: &[u64], first: u64, front: &mut [u8])
     requires { ⌜ templateWords ≤ length (now t) ⌝ }
-    requires { ⌜ (Seedable (now t) (now packet)) × (now front ≡ take staticLimit (lowered (now packet))) ⌝ }
-    ensures { λ _. ⌜ now (front .exit) ≡ take staticLimit (seeded (templateOf (now (t .entry)) .sum) (lowered (now (packet .entry)))) ⌝ }
+    requires { ⌜ Fillable (now t) first (now front) ⌝ }
+    ensures { λ _. ⌜ now (front .exit) ≡ filled (templateOf (now (t .entry)) .sum) first (now (front .entry)) ⌝ }
 {
     let head = judged_head(t);
     if head.checksum {
-        let first = seed(packet, head.start);
         put_word(front, head.field, first);
     }
 }

@@ -14,3 +14,9 @@ pub enum Found {
     At(usize),
     Nothing,
 }
+
+// The place of the template that fits a packet, and the seed under its checksum: 0 where it has none.
+pub enum Fit {
+    By(usize, u64),
+    None,
+}

@@ -28,16 +28,15 @@ use Rattle.table.specs.Sound.{UsableTemplate}
 use Rattle.table.proofs.TableFacts.{table-usable}
 use Rattle.state.specs.State.{tableAt, stateIn}
 use Rattle.state.proofs.StateLaws.{state-facts}
-use Rattle.template.specs.declared.Found.{Found}
-use Rattle.template.specs.declared.Found.the-variants.{At, Nothing}
+use Rattle.template.specs.declared.Fit.{Fit}
 use Rattle.template.specs.Pieces.{strip}
-use Rattle.template.specs.Fits.{Choice, full, firstFit}
+use Rattle.template.specs.Fits.{full, firstFit}
 use Rattle.template.specs.Datagrams.{seeded, shortForm, fullForm, datagram}
-use Rattle.template.specs.Usable.{Chosen, Testable, Fronted, Seedable, Shortenable, piecesOf}
+use Rattle.template.specs.Usable.{ChosenAt, Chosen, Testable, Fronted, Fillable, filled, Shortenable, piecesOf}
 use Rattle.table.proofs.InTurn.{templates-all}
 use Rattle.template.proofs.Steps.{find-done}
-use Rattle.template.proofs.FrontLaws.{front-length, front-whole}
-use Rattle.template.proofs.ChosenLaws.{chosen-full, chosen-short, chosen-fits, chosen-usable, fits-seedable, fits-shortenable}
+use Rattle.template.proofs.FrontLaws.{front-length, front-whole, front-filled}
+use Rattle.template.proofs.ChosenLaws.{chosen-full, chosen-short, chosen-fits, chosen-usable, fits-fillable, fits-shortenable}
 use Rattle.tunnel.specs.Tunnel.{sentBytes}
 use Rattle.tunnel.specs.Sending.{Sendable, Shortable}
 use Rattle.tunnel.proofs.SendingLaws.{SendGo}
@@ -66,52 +65,53 @@ id-below t k u = rw k (u .sound .below)
 pub behind : (p front q : List ℕ) → length q ≡ length front → take (length p - length q) (drop (length q) p) ≡ drop (length front) p
 behind p front q e = tail (length q) p ∙ ap (λ (n : ℕ). drop n p) e
 
-module _ (t front p out : List ℕ) (s : Shortable t front p out) where
+module _ (t : List ℕ) (first : ℕ) (front p out : List ℕ) (s : Shortable t first front p out) where
   pub id-room : (id : ℕ) → 0 + encodedSize id ≤ length out
   id-room id = omega (arith, size-bounds id .1, s .space)
 
-  pub short-seedable : Seedable t p
-  short-seedable = fits-seedable t p (s .usable) (s .fit) (s .testable)
+  pub short-fillable : Fillable t first front
+  short-fillable = fits-fillable t p (s .usable) (s .fit) (s .bytes) (s .seeding)
 
   pub front-inside : length front ≤ length p
   front-inside = omega (arith, front-length p (s .bytes))
 
-  module _ {h : Head} {q out₁ : List ℕ} {at : ℕ} (k : h ≡ headOf t) (w : Put (encode (h .id .0)) 0 out at out₁) (e : q ≡ take staticLimit (seeded (templateOf t .sum) (lowered p))) {rest : List ℕ} (g : rest ≡ drop (length front) p) where
+  module _ {h : Head} {q out₁ : List ℕ} {at : ℕ} (k : h ≡ headOf t) (w : Put (encode (h .id .0)) 0 out at out₁) (f : q ≡ filled (templateOf t .sum) first front) {rest : List ℕ} (g : rest ≡ drop (length front) p) where
+    front-seeded : q ≡ take staticLimit (seeded (templateOf t .sum) (lowered p))
+    front-seeded = front-filled p (s .bytes) (templateOf t .sum) (piecesOf t) (s .usable .sound .summed) (s .seeding) f
+
     pub short-shortenable : Shortenable t q rest out₁ at
     short-shortenable =
         let m : at ≤ room = omega (arith, w .place, length-encode (h .id .0), size-bounds (h .id .0) .1) in
         let r : at + length p ≤ length out₁ = omega (arith, s .space, w .kept) in
-        rw g (fits-shortenable t p (s .usable) (s .fit) (s .bytes) e r)
+        rw g (fits-shortenable t p (s .usable) (s .fit) (s .bytes) front-seeded r)
 
     pub put-short : {out₂ : List ℕ} {r : ℕ} → Put (strip 0 (piecesOf t) (q ++ rest)) at out₁ r out₂ → Put (shortForm (templateOf t) (lowered p)) 0 out r out₂
     unfolding shortForm templateOf
-    put-short f =
-        let whole : q ++ rest ≡ seeded (templateOf t .sum) (lowered p) = ap (λ (l : List ℕ). q ++ l) g ∙ front-whole p (s .bytes) (templateOf t .sum) (piecesOf t) (s .usable .sound .summed) e in
-        put-then (put-as (ap (λ (x : Head). encode (x .id .0)) k) w) (put-as (ap (strip 0 (piecesOf t)) whole) f)
+    put-short a =
+        let whole : q ++ rest ≡ seeded (templateOf t .sum) (lowered p) = ap (λ (l : List ℕ). q ++ l) g ∙ front-whole p (s .bytes) (templateOf t .sum) (piecesOf t) (s .usable .sound .summed) front-seeded in
+        put-then (put-as (ap (λ (x : Head). encode (x .id .0)) k) w) (put-as (ap (strip 0 (piecesOf t)) whole) a)
 
 -- ---- the form that is chosen
 
 -- where there are no templates, none is chosen
-pub chosen-none : (w p : List ℕ) → countIn w ≤ 0 → Chosen w (firstFit (templatesOf w) p) Nothing
-chosen-none w p h =
-    let e : firstFit (templatesOf w) p ≡ full = ap (λ l. firstFit l p) (templates-all w) ∙ find-done w p 0 (countIn w) h in
-    record { choice = sym e; within = tt }
+pub chosen-none : (w p : List ℕ) → countIn w ≤ 0 → firstFit (templatesOf w) p ≡ full
+chosen-none w p h = ap (λ l. firstFit l p) (templates-all w) ∙ find-done w p 0 (countIn w) h
 
-pub chosen-as : {w : List ℕ} {c : Choice} {r q : Found} → r ≡ q → Chosen w c r → Chosen w c q
-chosen-as e f = rw e at f
+pub chosen-as : (w p : List ℕ) {r q : Fit} → r ≡ q → Chosen w p r → Chosen w p q
+chosen-as w p e f = rw e at f
 
 module _ (w p out : List ℕ) where
-  pub datagram-full : {after : List ℕ} {n : ℕ} → Chosen w (firstFit (templatesOf w) p) Nothing → Put (fullForm p) 0 out n after
+  pub datagram-full : {after : List ℕ} {n : ℕ} → firstFit (templatesOf w) p ≡ full → Put (fullForm p) 0 out n after
       → Put (datagram (templatesOf w) p) 0 out n after
   unfolding fullForm
   datagram-full c f = put-as (sym (chosen-full w p c)) f
 
   -- t is the words of the template, as they are cut out
-  module _ (i : ℕ) {t : List ℕ} (c : Chosen w (firstFit (templatesOf w) p) (At i)) (e : t ≡ wordsAt w i) where
+  module _ (i v : ℕ) {t : List ℕ} (c : ChosenAt w p i v) (e : t ≡ wordsAt w i) where
     pub datagram-short : {after : List ℕ} {n : ℕ} → Put (shortForm (templateOf t) p) 0 out n after
         → Put (datagram (templatesOf w) p) 0 out n after
     unfolding shortForm
-    datagram-short f = put-as (ap (λ (l : List ℕ). shortForm (templateOf l) p) e ∙ sym (chosen-short w p i c)) f
+    datagram-short f = put-as (ap (λ (l : List ℕ). shortForm (templateOf l) p) e ∙ sym (chosen-short w p i v c)) f
 
 -- ---- the front of the packet, lowered
 
@@ -157,13 +157,13 @@ module _ (p : List ℕ) {n : ℕ} (m : n ≡ min (length p) staticLimit) where
       front-fronted = record { testable = sendable-testable; bytes = front-lowered }
 
       -- t is the words of the template that was found, as they are cut out
-      pub chosen-shortable : (i : ℕ) {t : List ℕ} → Chosen w (firstFit (templatesOf w) (lowered p)) (At i) → t ≡ wordsAt w i → Shortable t (take n after) p out
-      chosen-shortable i c f =
+      pub chosen-shortable : (i v : ℕ) {t : List ℕ} → ChosenAt w (lowered p) i v → t ≡ wordsAt w i → Shortable t v (take n after) p out
+      chosen-shortable i v c f =
           rw f (record {
-            usable = chosen-usable w (lowered p) i c (s .usable);
-            testable = sendable-testable;
+            usable = chosen-usable w (lowered p) i v c (s .usable);
+            seeding = c .seeding;
             bytes = front-lowered;
-            fit = chosen-fits w (lowered p) i c;
+            fit = chosen-fits w (lowered p) i v c;
             space = omega (arith, s .short, s .space);
           })
 

@@ -11,7 +11,7 @@ use Rattle.table.specs.Words.{templateOf}
 use Rattle.table.specs.Sound.{UsableTemplate, Usable}
 use Rattle.template.specs.Fits.{fits}
 use Rattle.template.specs.Datagrams.{maxPacket}
-use Rattle.template.specs.Usable.{Testable}
+use Rattle.template.specs.Usable.{seedOf}
 use Rattle.tunnel.specs.Tunnel.{sendRoom}
 
 -- a packet that can be lowered, and room for its datagram
@@ -22,10 +22,10 @@ pub record Sendable (w p out : List ℕ) : Type 0 where
   pub short : length p ≤ maxPacket
   pub space : sendRoom ≤ length out
 
--- a packet that a template fits as it goes on, its front, and room for its datagram
-pub record Shortable (t front p out : List ℕ) : Type 0 where
+-- a packet that a template fits as it goes on, the seed under its checksum, the packet's front, and room for its datagram
+pub record Shortable (t : List ℕ) (first : ℕ) (front p out : List ℕ) : Type 0 where
   pub usable : UsableTemplate t
-  pub testable : Testable p
+  pub seeding : first ≡ seedOf (templateOf t .sum) (lowered p)
   pub bytes : front ≡ take staticLimit (lowered p)
   pub fit : fits (templateOf t) (lowered p) ≡ true
   pub space : room + length p ≤ length out

@@ -14,7 +14,7 @@ use state::state_sound;
 use table::STATIC_LIMIT;
 use table::TEMPLATE_WORDS;
 use table::judged_head;
-use template::Found;
+use template::Fit;
 use template::MAX_PACKET;
 use template::body::shorten;
 use template::checksum::put_seed;
@@ -97,11 +97,11 @@ fn put_searched(table: &[u64], packet: &[u8], out: &mut [u8]) -> usize
     lower_into(&packet[..n], &mut front);
     let found = find(table, &front[..n], packet);
     match found {
-        Found::Nothing => put_plain(packet, out),
-        Found::At(i) => {
+        Fit::None => put_plain(packet, out),
+        Fit::By(i, first) => {
             let from = 1 + i * TEMPLATE_WORDS;
             let end = from + TEMPLATE_WORDS;
-            put_short(&table[from..end], packet, &mut front[..n], out)
+            put_short(&table[from..end], first, packet, &mut front[..n], out)
         }
     }
 }
@@ -125,15 +125,15 @@ fn put_plain(packet: &[u8], out: &mut [u8]) -> usize
     1 + packet.len()
 }
 
-// The short form by a template: the Context ID, then the bytes outside all segments with the seed in the field.
-fn put_short(t: &[u64], packet: &[u8], front: &mut [u8], out: &mut [u8]) -> usize
+// The short form by a template: the Context ID, then the bytes outside all segments with the seed, `first`, in the field.
+fn put_short(t: &[u64], first: u64, packet: &[u8], front: &mut [u8], out: &mut [u8]) -> usize
     requires { ⌜ templateWords ≤ length (now t) ⌝ }
-    requires { ⌜ Shortable (now t) (now front) (now packet) (now out) ⌝ }
+    requires { ⌜ Shortable (now t) first (now front) (now packet) (now out) ⌝ }
     ensures { λ r. ⌜ Put (shortForm (templateOf (now (t .entry))) (lowered (now (packet .entry)))) 0 (now (out .entry)) r (now (out .exit)) ⌝ }
 {
     let id = judged_head(t).id;
     let at = put_number(out, 0, id.0);
-    put_seed(t, packet, front);
+    put_seed(t, first, front);
     let n = front.len();
     shorten(t, front, &packet[n..], out, at)
 }

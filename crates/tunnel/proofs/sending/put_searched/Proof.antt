@@ -6,11 +6,9 @@ use native.Mathlib.Omega.{arith}
 use lib.ListN.{length, take}
 use Rattle.inet.specs.Packet.{lowered}
 use Rattle.table.specs.Limits.{maxTemplates}
-use Rattle.table.specs.Words.{wordsAt, templatesOf}
+use Rattle.table.specs.Words.{wordsAt}
 use Rattle.table.proofs.Judging.{words-at}
-use Rattle.template.specs.declared.Found.the-variants.{At}
-use Rattle.template.specs.Fits.{firstFit}
-use Rattle.template.specs.Usable.{Fronted, Chosen}
+use Rattle.template.specs.Usable.{Fronted, ChosenAt}
 use Rattle.template.proofs.Steps.{words-length}
 use Rattle.tunnel.specs.Sending.{Shortable}
 use Rattle.tunnel.proofs.SendingSteps.{front-size, front-lowerable, front-count, front-fronted, chosen-as, chosen-shortable, datagram-full, datagram-short}
@@ -34,11 +32,11 @@ counted c = front-count (Packet c) (c .before .before .before .least .ensures) (
 fronted : (c : tie.After-lower-into) → Fronted (Front c) (Packet c)
 fronted c = front-fronted (Packet c) (c .before .before .before .least .ensures) (In c .pre .1) _ (c .lower-into .ensures)
 
-shortable : (c : tie.After-lower-into) (i : ℕ) {t : List ℕ} → Chosen (In c .args .table .now) (firstFit (templatesOf (In c .args .table .now)) (lowered (Packet c))) (At i)
-    → t ≡ wordsAt (In c .args .table .now) i → Shortable t (Front c) (Packet c) (In c .args .out .now)
-shortable c i f e = chosen-shortable (Packet c) (c .before .before .before .least .ensures) (In c .pre .1) _ (c .lower-into .ensures) i f e
+shortable : (c : tie.After-lower-into) (i v : ℕ) {t : List ℕ} → ChosenAt (In c .args .table .now) (lowered (Packet c)) i v
+    → t ≡ wordsAt (In c .args .table .now) i → Shortable t v (Front c) (Packet c) (In c .args .out .now)
+shortable c i v f e = chosen-shortable (Packet c) (c .before .before .before .least .ensures) (In c .pre .1) _ (c .lower-into .ensures) i v f e
 
--- in the arm `At`: the table, the place, and what the search says of it
+-- in the arm `By`: the table, the place and the seed, and what the search says of them
 abbrev Made : tie.After-known-told → tie.After-lower-into
 Made c = c .before .before .before .before .before .before
 
@@ -48,8 +46,11 @@ Table c = In (Made c) .args .table .now
 abbrev Place : tie.After-known-told → ℕ
 Place c = c .before .found .given .0 .0
 
-chosen : (c : tie.After-known-told) → Chosen (Table c) (firstFit (templatesOf (Table c)) (lowered (Packet (Made c)))) (At (Place c))
-chosen c = chosen-as (c .before .found .given .1) (c .before .before .before .find .ensures)
+abbrev Seed : tie.After-known-told → ℕ
+Seed c = c .before .found .given .0 .1 .0
+
+chosen : (c : tie.After-known-told) → ChosenAt (Table c) (lowered (Packet (Made c))) (Place c) (Seed c)
+chosen c = chosen-as (Table c) (lowered (Packet (Made c))) (c .before .found .given .1) (c .before .before .before .find .ensures)
 
 within : (c : tie.After-known-told) → Place c < maxTemplates
 within c = omega (arith, chosen c .within, In (Made c) .pre .1 .usable .few)
@@ -114,13 +115,13 @@ slice-aggregate-put-short c = counted (c .before .before .before .before .before
 put-short-requires : tie.Need-put-short-requires
 put-short-requires c κs =
     let k = c .before .before .before in
-    (words-length (Table k) (Place k) (In (Made k) .pre .0) (within k), shortable (Made k) (Place k) (chosen k) (words-at (Table k) (Place k)))
+    (words-length (Table k) (Place k) (In (Made k) .pre .0) (within k), shortable (Made k) (Place k) (Seed k) (chosen k) (words-at (Table k) (Place k)))
 
 same-length : tie.Need-same-length
 same-length c = search needs
 
 returns : tie.Need-returns
-returns c = datagram-full _ _ _ (chosen-as (c .before .before .before .before .enum-told .given .1) (c .before .before .before .before .before .before .find .ensures)) (c .before .before .put-plain .ensures)
+returns c = datagram-full _ _ _ (chosen-as _ _ (c .before .before .before .before .enum-told .given .1) (c .before .before .before .before .before .before .find .ensures)) (c .before .before .put-plain .ensures)
 
 same-length-2 : tie.Need-same-length-2
 same-length-2 c = search needs
@@ -128,7 +129,7 @@ same-length-2 c = search needs
 returns-2 : tie.Need-returns-2
 returns-2 c =
     let k = c .before .before .before .before .before .before .before in
-    datagram-short _ _ _ (Place k) (chosen k) (words-at (Table k) (Place k)) (c .before .before .before .put-short .ensures)
+    datagram-short _ _ _ (Place k) (Seed k) (chosen k) (words-at (Table k) (Place k)) (c .before .before .before .put-short .ensures)
 
 pub put-searched-spec : {M : Type 1} → statement M
 put-searched-spec =
