@@ -13,6 +13,8 @@ use lib.Seq.{drop-drop, take-suc-set, length-take-le}
 use Rattle.octets.specs.Scan.{anyOf}
 use Rattle.octets.proofs.Scans.{any-append}
 use Rattle.distinct.specs.Repeats.{repeated}
+use Rattle.distinct.specs.Sorting.{Rising}
+use Rattle.distinct.proofs.CountLaws.{any-rising, repeated-rising}
 use Rattle.lists.specs.declared.AddressEntry.{AddressEntry}
 use Rattle.lists.specs.Rules.{idOf}
 use Rattle.capsule.specs.declared.element.EntryRead.{EntryRead}
@@ -101,14 +103,11 @@ module _ {s ids : List ℕ} {at : ℕ} (i : Reading s ids at) where
       let g = ids-front (length s - length ids) (drop at s) z in
       (g, omega (arith, length-drop at s, Entry.size (drop at s) (g .entry) (g .size) (g .reading) .0, Entry.size (drop at s) (g .entry) (g .size) (g .reading) .1))
 
-  -- no more are read than there are
-  pub known : length ids ≤ length (idsIn s)
-  known =
-      omega (
-        arith,
-        ap length (i .rest),
-        length-append ids (idsFrom (suc (length s - length ids)) (drop at s)),
-      )
+  -- and the code reads its ID
+  pub next-read : length ids < length (idsIn s) → (r : IdRead) → ReadsId (drop at s) r → Reading s (ids ++ (r .id ∷ [])) (at + r .size)
+  next-read h r d =
+      let g = front h .0 in
+      rw (d .id (g .entry) (g .size) (g .reading), d .size (g .entry) (g .size) (g .reading)) (next (front h .1) (g .entry) (g .size) (g .reading))
 
 -- ---- the IDs are the first n of an array, and none is zero
 
@@ -129,47 +128,32 @@ module _ {s array : List ℕ} {size n at : ℕ} (i : Collecting s array size n a
   counted : length (take n array) ≡ n
   counted = length-take-le n array (omega (arith, i .number, i .sized))
 
-  module _ (g : at < length s) (e : AddressEntry) (m : ℕ) (q : readEntry (drop at s) ≡ Good e m) where
-    step : Reading s (take n array ++ (idOf e ∷ [])) (at + m)
-    step = next (i .reading) g e m q
-
-    pub room : length (idsIn s) ≤ size → n < size
-    room h = omega (arith, counted, known step, length-append (take n array) (idOf e ∷ []))
-
-    pub zero-id : idOf e ≡ 0 → true ≡ idsRefused (idsIn s)
-    zero-id h =
-        let z : anyOf (λ d. eqb d 0) (idsIn s) ≡ true =
-        sym (ap (anyOf (λ d. eqb d 0)) (step .rest))
-        ∙ any-zero (take n array) _ (idOf e) h in
-        rw z
-
-    pub collect : length (idsIn s) ≤ size → (idOf e ≡ 0 → ⊥) → Collecting s (set array n (idOf e)) size (n + 1) (at + m)
-    collect h o =
-        let r : n < length array = omega (arith, i .sized, room h) in
-        let t : take (n + 1) (set array n (idOf e)) ≡ take n array ++ (idOf e ∷ []) = rw add-one (take-suc-set array n (idOf e) r) in
-        record {
-          reading = rw t step;
-          sized = length-set array n (idOf e) ∙ i .sized;
-          number = omega (arith, room h);
-          some = rw (t, any-append (λ d. eqb d 0) (take n array) (idOf e ∷ []), i .some, ne-eqb (idOf e) 0 o);
-        }
-
   -- the next entry, by the code's reading of its ID
   module _ (h : n < length (idsIn s)) where
     pub ahead : GoodFront (drop at s) × (at < length s)
     ahead = front (i .reading) (omega (arith, counted))
 
     module _ (r : IdRead) (d : ReadsId (drop at s) r) where
+      step : Reading s (take n array ++ (r .id ∷ [])) (at + r .size)
+      step = next-read (i .reading) (omega (arith, counted)) r d
+
       pub zero-read : r .id ≡ 0 → true ≡ idsRefused (idsIn s)
       zero-read z =
-          let g = ahead .0 in
-          zero-id (ahead .1) (g .entry) (g .size) (g .reading) (sym (d .id (g .entry) (g .size) (g .reading)) ∙ z)
+          let y : anyOf (λ d. eqb d 0) (idsIn s) ≡ true =
+          sym (ap (anyOf (λ d. eqb d 0)) (step .rest))
+          ∙ any-zero (take n array) _ (r .id) z in
+          rw y
 
       pub collect-read : length (idsIn s) ≤ size → (r .id ≡ 0 → ⊥) → Collecting s (set array n (r .id)) size (n + 1) (at + r .size)
       collect-read k o =
-          let g = ahead .0 in
-          let e = d .id (g .entry) (g .size) (g .reading) in
-          rw (e, d .size (g .entry) (g .size) (g .reading)) (collect (ahead .1) (g .entry) (g .size) (g .reading) k (λ z. o (e ∙ z)))
+          let t : take (n + 1) (set array n (r .id)) ≡ take n array ++ (r .id ∷ []) =
+          rw add-one (take-suc-set array n (r .id) (omega (arith, i .sized))) in
+          record {
+            reading = rw t step;
+            sized = length-set array n (r .id) ∙ i .sized;
+            number = omega arith;
+            some = rw (t, any-append (λ d. eqb d 0) (take n array) (r .id ∷ []), i .some, ne-eqb (r .id) 0 o);
+          }
 
   -- a spare array of the same size has as many numbers, and a value within the limit few
   pub fitting : (spare : List ℕ) → length spare ≡ size → length s ≤ maxValue → (length (take n spare) ≡ length (take n array)) × (length (take n array) < 2 ^ 62)
@@ -179,3 +163,37 @@ module _ {s array : List ℕ} {size n at : ℕ} (i : Collecting s array size n a
   -- what is left is to compare them
   pub compare : length (idsIn s) ≤ n → repeated (take n array) ≡ idsRefused (idsIn s)
   compare h = rw (← full (i .reading) (omega (arith, counted)), i .some)
+
+-- ---- the IDs rise above zero
+
+-- those read so far do, and with any that rise above the last of them
+pub record Climbing (s : List ℕ) (last n at : ℕ) : Type 0 where
+  pub ids : List ℕ
+  pub reading : Reading s ids at
+  pub number : length ids ≡ n
+  pub rises : (l : List ℕ) → Rising (suc last) l → Rising 1 (ids ++ l)
+
+pub climb-start : (s : List ℕ) → Climbing s 0 0 0
+climb-start s = record { ids = []; reading = start s; number = refl; rises = λ l r. r }
+
+module _ {s : List ℕ} {last n at : ℕ} (i : Climbing s last n at) where
+  module _ (h : n < length (idsIn s)) where
+    pub climb-ahead : GoodFront (drop at s) × (at < length s)
+    climb-ahead = front (i .reading) (omega (arith, i .number))
+
+    pub climb-read : (r : IdRead) → ReadsId (drop at s) r → last < r .id → Climbing s (r .id) (n + 1) (at + r .size)
+    unfolding Rising
+    climb-read r d k =
+        record {
+          ids = i .ids ++ (r .id ∷ []);
+          reading = next-read (i .reading) (omega (arith, i .number)) r d;
+          number = omega (arith, i .number, length-append (i .ids) (r .id ∷ []));
+          rises = λ l q. rw append-assoc (i .rises (r .id ∷ l) (k, q));
+        }
+
+  -- so none is zero, and no two are equal
+  pub climb-end : length (idsIn s) ≤ n → idsRefused (idsIn s) ≡ false
+  unfolding Rising
+  climb-end h =
+      let r : Rising 1 (i .ids) = rw append-nil at (i .rises [] tt) in
+      rw (← full (i .reading) (omega (arith, i .number)), any-rising 1 0 (i .ids) r (omega arith), repeated-rising 1 (i .ids) r)

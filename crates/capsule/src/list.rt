@@ -11,7 +11,7 @@ use lists::MAX_RANGES;
 use lists::ROUTE_WORDS;
 use lists::RouteList;
 ghost use mathlib.Core.Path.{_≡_};
-ghost use mathlib.Core.Bool.{false, _&&_};
+ghost use mathlib.Core.Bool.{true, false, _&&_};
 ghost use Prim.Native.Nat.{_≤_};
 ghost use lib.ListN.{length, replicate};
 ghost use Rattle.lists.specs.Words.{maxAddresses, maxRanges, addressWords, routeWords};
@@ -146,10 +146,35 @@ fn ids_refused(value: &[u8], request: bool, count: usize) -> bool
     if !request {
         return false;
     }
+    // the usual case: a peer that counts up
+    if ids_ascend(value, count) {
+        return false;
+    }
     if count <= MAX_ADDRESSES {
         return few_refused(value, count);
     }
     many_refused(value, count)
+}
+
+// Whether none of so many IDs is zero and each is larger than the one before it. They are compared as they are read, so that none is stored.
+fn ids_ascend(value: &[u8], count: usize) -> bool
+    requires { ⌜ length (now value) ≤ maxValue ⌝ }
+    requires { ⌜ length (idsIn (now value)) ≡ count ⌝ }
+    ensures { λ r. ⌜ (r ≡ true → idsRefused (idsIn (now (value .entry))) ≡ false) ⌝ }
+{
+    let mut last: u64 = 0;
+    let mut n: usize = 0;
+    let mut at: usize = 0;
+    while n < count {
+        let r = crate::element::read_id(&value[at..]);
+        if r.id <= last {
+            return false;
+        }
+        last = r.id;
+        n += 1;
+        at += r.size;
+    }
+    true
 }
 
 // The IDs of no more entries than a list may have: for those of most requests no large array is cleared.

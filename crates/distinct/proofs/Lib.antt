@@ -1,4 +1,4 @@
-mod CountLaws
+pub mod CountLaws
 mod Merging
 mod Backing
 mod RunLaws
