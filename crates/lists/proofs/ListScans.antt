@@ -58,6 +58,15 @@ module _ (w : List ℕ) where
   pub ranges-within : soundRoutes (rangesOf w) ≡ true → countOf w ≤ maxRanges
   ranges-within s = rw length-ranges at (routes-facts (rangesOf w) s .0)
 
+  -- a list of at most one address
+  pub entries-none : countOf w ≡ 0 → soundAddresses (entriesOf w) ≡ true
+  unfolding entriesOf soundAddresses
+  entries-none z = rw z
+
+  pub entries-one : {e : AddressEntry} → countOf w ≡ 1 → e ≡ entryAt w 0 → soundEntry e ≡ true → soundAddresses (entriesOf w) ≡ true
+  unfolding entriesOf soundAddresses
+  entries-one z q s = rw (z, ← q, s)
+
   -- a search of the elements
   pub any-entry : (p : AddressEntry → Bool) → Seeking p (entryAt w) (countOf w) (anyOf p (entriesOf w)) 0
   unfolding entriesOf

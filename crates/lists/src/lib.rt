@@ -221,6 +221,36 @@ pub fn before_all() -> RouteRange
     }
 }
 
+// Whether a list of at most one address keeps its rules: true says that it does. A longer one is not looked at, and false says nothing.
+pub fn short_addresses(w: &[u64]) -> bool
+    requires { ⌜ addressWords ≤ length (now w) ⌝ }
+    ensures { λ r. ⌜ (r ≡ true → soundAddresses (entriesOf (now (w .entry))) ≡ true) ⌝ }
+{
+    if w[0] == 0 {
+        return true;
+    }
+    if w[0] != 1 {
+        return false;
+    }
+    let e = entry_at(w, 0);
+    entry_sound(e)
+}
+
+// The same of a list of at most one range.
+pub fn short_routes(w: &[u64]) -> bool
+    requires { ⌜ routeWords ≤ length (now w) ⌝ }
+    ensures { λ r. ⌜ (r ≡ true → soundRoutes (rangesOf (now (w .entry))) ≡ true) ⌝ }
+{
+    if w[0] == 0 {
+        return true;
+    }
+    if w[0] != 1 {
+        return false;
+    }
+    let r = range_at(w, 0);
+    range_sound(r)
+}
+
 // Entries of one tag put together: the bits of all their words, and where the next entry stands.
 pub struct Joined {
     pub next: usize,

@@ -55,6 +55,17 @@ pub fn side_sound(side: &[u64]) -> bool
     lists::routes_sound(&side[ADDRESS_WORDS..SIDE_WORDS])
 }
 
+// Whether a side of at most one address and one range keeps its rules, judged without a loop: true says that it does. False says nothing.
+pub fn short_sound(side: &[u64]) -> bool
+    requires { ⌜ sideWords ≤ length (now side) ⌝ }
+    ensures { λ r. ⌜ (r ≡ true → soundSide (sideIn (now (side .entry))) ≡ true) ⌝ }
+{
+    if !lists::short_addresses(&side[0..ADDRESS_WORDS]) {
+        return false;
+    }
+    lists::short_routes(&side[ADDRESS_WORDS..SIDE_WORDS])
+}
+
 // Whether a side grants a flow or, as a reply, the other one does.
 pub fn passes<'a>(side: &'a [u64], reply: &'a [u64], f: Flow) -> bool
     requires { ⌜ (sideWords ≤ length (now side)) × (sideWords ≤ length (now reply)) ⌝ }
