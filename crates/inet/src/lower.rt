@@ -14,7 +14,7 @@ pub fn lower_into(packet: &[u8], image: &mut [u8])
     requires { ⌜ Lowerable (now packet) (now image) ⌝ }
     ensures { λ _. ⌜ now (image .exit) ≡ lowered (now (packet .entry)) ++ drop (length (now (packet .entry))) (now (image .entry)) ⌝ }
 {
-    bytes::copy(packet, image);
+    octets::copy(packet, image);
     let n = packet.len();
     if version(packet) == 4 {
         lower4(&mut image[..n]);
