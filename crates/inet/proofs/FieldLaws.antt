@@ -2,13 +2,13 @@
 use mathlib.Core.Path.{_≡_, refl, sym, ap, _∙_}
 use mathlib.Core.Logic.{_≢_}
 use mathlib.Core.Bool.{Bool, true, false}
-use mathlib.Core.List.{List, [], _∷_}
+use mathlib.Core.List.{List, [], _∷_, _++_}
 use Prim.Native.Nat.{ℕ, zero, suc, _+_, _-_, _/_, _%_, _≤_, _<_}
 use native.Mathlib.Nat.{add-assoc}
 use native.Mathlib.Omega.{arith}
 use native.Mathlib.Numerals.{add-one}
 use lib.ListN.{length, getD, take, drop, set, length-set}
-use lib.Seq.{set-set, set-comm, set-getD, getD-set-other, take-set-lt, drop-set-lt, drop-set-add}
+use lib.Seq.{set-set, set-comm, set-getD, getD-set-other, take-set-lt, drop-set-lt, drop-set-add, set-append-left}
 use lib.Dec.{eqb}
 use borrow.Author.Tests.{eqb-true, eqb-false, eq-eqb}
 use Rattle.answer.proofs.Tests.{and-both, only-false}
@@ -34,6 +34,12 @@ module _ (l : List ℕ) (i v : ℕ) where
   pub put-drop : (n : ℕ) → i + 1 < n → drop n (put16 l i v) ≡ drop n l
   unfolding put16
   put-drop n h = let k : i < n = omega arith in rw (drop-set-lt, drop-set-lt)
+
+  pub put-append : (r : List ℕ) → i + 1 < length l → put16 (l ++ r) i v ≡ put16 l i v ++ r
+  unfolding put16
+  put-append r h =
+      ap (λ (x : List ℕ). set x (i + 1) (v % 256)) (set-append-left l r i (v / 256) (omega arith))
+      ∙ set-append-left (set l i (v / 256)) r (i + 1) (v % 256) (omega (arith, length-set l i (v / 256)))
 
 -- a word put past n, in the list from n on
 pub drop-put : (l : List ℕ) (n i v : ℕ) → drop n (put16 l (n + i) v) ≡ put16 (drop n l) i v

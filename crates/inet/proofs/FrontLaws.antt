@@ -1,15 +1,18 @@
--- The front of a packet that has all of its header: lowering looks at nothing behind it. Assumes nothing.
-use mathlib.Core.Path.{_≡_, sym, ap, _∙_}
+-- The front of a packet that has all of its header: lowering, the form and both addresses look at nothing behind it. Assumes nothing.
+use mathlib.Core.Path.{_≡_, refl, sym, ap, _∙_}
 use mathlib.Core.Logic.{_⊎_, inl, inr}
 use mathlib.Core.Bool.{Bool, true, false}
-use mathlib.Core.List.{List}
-use Prim.Native.Nat.{ℕ, _/_, _≤_, _<_}
+use mathlib.Core.List.{List, [], _∷_, _++_}
+use Prim.Native.Nat.{ℕ, _+_, _*_, _/_, _%_, _≤_, _<_, min}
 use native.Mathlib.Omega.{arith}
-use lib.ListN.{getD, take, length-take}
-use lib.Seq.{getD-take, take-set-lt, take-take}
+use lib.ListN.{length, getD, take, length-take, length-append, List·getD-append}
+use lib.Seq.{getD-take, take-set-lt, take-take, take-append-le}
 use lib.Dec.{eqb}
 use Rattle.answer.specs.Choice.{pick}
-use Rattle.inet.specs.Packet.{versionOf, headerLength, Form, Form4, Form6, Headed, hopPlace, hopsOf, put16, hop4, hop6, headerCheck, lowered4, lowered}
+use Rattle.inet.specs.Sum.{words, fold}
+use Rattle.inet.specs.Fronts.{maxHeader, Tells}
+use Rattle.inet.specs.Packet.{versionOf, headerLength, form4, form6, form, Form, Form4, Form6, Headed, hopPlace, hopsOf, put16, hop4, hop6, headerCheck, lowered4, lowered}
+use Rattle.inet.proofs.FormFacts.{form4-fails, facts-form4, form6-fails, facts-form6, form-of-4, form-of-6, form-of-other}
 use Rattle.inet.proofs.FieldLaws.{put-take}
 use Rattle.inet.proofs.LoweredLaws.{lowered-4, lowered-6}
 
@@ -73,3 +76,104 @@ take-kind k p h (inr f) =
 -- the front lowered is the front of the lowered packet
 pub take-lowered : (k : ℕ) (p : List ℕ) → 60 ≤ k → Form p → lowered (take k p) ≡ take k (lowered p)
 take-lowered k p h f = take-kind k p h (f .kind)
+
+-- ---- the form of a packet of n bytes, as facts about its front
+pub record Front4 (front : List ℕ) (n : ℕ) : Type 0 where
+  pub long : 20 ≤ n
+  pub four : versionOf front ≡ 4
+  pub ihl : 5 ≤ getD front 0 0 % 16
+  pub head : headerLength front ≤ n
+  pub total : getD front 2 0 * 256 + getD front 3 0 ≡ n
+  pub sum : fold (words (take (headerLength front) front)) ≡ 65535
+
+pub record Front6 (front : List ℕ) (n : ℕ) : Type 0 where
+  pub long : 40 ≤ n
+  pub six : versionOf front ≡ 6
+  pub payload : getD front 4 0 * 256 + getD front 5 0 + 40 ≡ n
+
+module _ (front tail : List ℕ) {n : ℕ} (e : length front + length tail ≡ n) (h : min maxHeader n ≤ length front) where
+  joined-length : length (front ++ tail) ≡ n
+  joined-length = length-append front tail ∙ e
+
+  joined-at : (i : ℕ) → i < maxHeader → i < n → getD (front ++ tail) i 0 ≡ getD front i 0
+  joined-at i k l = List·getD-append front tail 0 i (omega arith)
+
+  -- the version of no bytes at all is 0
+  pub joined-version : versionOf (front ++ tail) ≡ versionOf front
+  joined-version = go front tail e h
+    where
+      go : (f t : List ℕ) → length f + length t ≡ n → min maxHeader n ≤ length f → versionOf (f ++ t) ≡ versionOf f
+      go [] [] e h = refl
+      go [] (x ∷ t) e h = absurd (omega arith)
+      go (x ∷ f) t e h = refl
+
+  joined-header : headerLength front ≤ n → words (take (headerLength front) (front ++ tail)) ≡ words (take (headerLength front) front)
+  joined-header k = ap words (take-append-le (headerLength front) front tail (omega arith))
+
+  joined-4 : Front4 front n → Form4 (front ++ tail)
+  joined-4 f =
+      let a = joined-at 0 (omega arith) (omega arith) in
+      record {
+        long = omega (arith, joined-length);
+        four = joined-version ∙ f .four;
+        ihl = rw a (f .ihl);
+        head = rw a (omega (arith, joined-length));
+        total = omega (arith, joined-at 2 (omega arith) (omega arith), joined-at 3 (omega arith) (omega arith), joined-length);
+        sum = rw a (ap fold (joined-header (f .head)) ∙ f .sum);
+      }
+
+  front-4 : Form4 (front ++ tail) → Front4 front n
+  front-4 f =
+      let l = joined-length in
+      let a = joined-at 0 (omega arith) (omega arith) in
+      let k : headerLength front ≤ n = omega arith in
+      record {
+        long = omega arith;
+        four = sym joined-version ∙ f .four;
+        ihl = omega arith;
+        head = k;
+        total = omega (arith, joined-at 2 (omega arith) (omega arith), joined-at 3 (omega arith) (omega arith));
+        sum = ap fold (sym (joined-header k)) ∙ rw a at (f .sum);
+      }
+
+  joined-6 : Front6 front n → Form6 (front ++ tail)
+  joined-6 f =
+      record {
+        long = omega (arith, joined-length);
+        six = joined-version ∙ f .six;
+        payload = omega (arith, joined-at 4 (omega arith) (omega arith), joined-at 5 (omega arith) (omega arith), joined-length);
+      }
+
+  front-6 : Form6 (front ++ tail) → Front6 front n
+  front-6 f =
+      let l = joined-length in
+      record {
+        long = omega arith;
+        six = sym joined-version ∙ f .six;
+        payload = omega (arith, joined-at 4 (omega arith) (omega arith), joined-at 5 (omega arith) (omega arith));
+      }
+
+-- what the tests of a front tell
+module _ {front : List ℕ} {n : ℕ} (h : min maxHeader n ≤ length front) where
+  pub tells-4 : Front4 front n → Tells form4 front n true
+  tells-4 f = record { told = λ tail e. sym (facts-form4 (front ++ tail) (joined-4 front tail e h f)) }
+
+  pub tells-not-4 : (Front4 front n → ⊥) → Tells form4 front n false
+  tells-not-4 k = record { told = λ tail e. sym (form4-fails (front ++ tail) (λ f. k (front-4 front tail e h f))) }
+
+  pub tells-6 : Front6 front n → Tells form6 front n true
+  tells-6 f = record { told = λ tail e. sym (facts-form6 (front ++ tail) (joined-6 front tail e h f)) }
+
+  pub tells-not-6 : (Front6 front n → ⊥) → Tells form6 front n false
+  tells-not-6 k = record { told = λ tail e. sym (form6-fails (front ++ tail) (λ f. k (front-6 front tail e h f))) }
+
+  module _ {b : Bool} where
+    pub tells-of-4 : versionOf front ≡ 4 → Tells form4 front n b → Tells form front n b
+    tells-of-4 v t = record { told = λ tail e. t .told tail e ∙ form-of-4 (front ++ tail) (joined-version front tail e h ∙ v) }
+
+    pub tells-of-6 : versionOf front ≡ 6 → Tells form6 front n b → Tells form front n b
+    tells-of-6 v t = record { told = λ tail e. t .told tail e ∙ form-of-6 (front ++ tail) (joined-version front tail e h ∙ v) }
+
+  pub tells-of-other : (versionOf front ≡ 4 → ⊥) → (versionOf front ≡ 6 → ⊥) → Tells form front n false
+  tells-of-other k m =
+      record { told = λ tail e. let v = joined-version front tail e h in sym (form-of-other (front ++ tail) (λ f. k (sym v ∙ f)) (λ f. m (sym v ∙ f))) }

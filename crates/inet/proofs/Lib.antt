@@ -5,3 +5,4 @@ pub mod FieldLaws
 pub mod LoweredLaws
 pub mod TransportLaws
 pub mod FrontLaws
+pub mod AddressLaws

@@ -1,10 +1,11 @@
 -- The checksum of what a packet carries: what the code adds up, and what lowering the packet keeps. Assumes nothing.
 use mathlib.Core.Path.{_≡_, refl, sym, ap, _∙_}
 use mathlib.Core.Bool.{Bool, true, false, _&&_}
-use mathlib.Core.List.{List}
-use Prim.Native.Nat.{ℕ, _+_, _-_, _%_, _≤_, _<_}
+use mathlib.Core.List.{List, _++_}
+use Prim.Native.Nat.{ℕ, _+_, _-_, _*_, _%_, _≤_, _<_}
 use native.Mathlib.Omega.{arith}
-use lib.ListN.{length, take, drop, length-drop}
+use lib.ListN.{length, take, drop, length-drop, List·getD-append}
+use lib.Seq.{drop-append-le}
 use lib.Dec.{eqb}
 use borrow.Author.Tests.{eqb-true, eqb-false, eq-eqb, ne-eqb}
 use Rattle.answer.specs.Choice.{pick}
@@ -13,7 +14,8 @@ use Rattle.inet.specs.Sum.{words, fold}
 use Rattle.inet.specs.SumLaws.{fold-fits, fold-completes}
 use Rattle.inet.specs.Packet.{versionOf, protocolByte, put16, lowered}
 use Rattle.inet.specs.Transport.{addressWords, pseudoSum, seed, setField, fieldIs, sent, finish, completion, damaged}
-use Rattle.inet.proofs.WordLaws.{fold-add, fold-cong}
+use Rattle.inet.specs.Fronts.{Summable, CountsBehind}
+use Rattle.inet.proofs.WordLaws.{fold-add, fold-cong, fold-append-none, fold-append-even, fold-append-odd}
 use Rattle.inet.proofs.HeaderLaws.{pick-4, pick-not-4}
 use Rattle.inet.proofs.FieldLaws.{put-other, drop-put-from, words-put}
 use Rattle.inet.proofs.LoweredLaws.{pick-same, lowered-length, lowered-version, lowered-at, lowered-drop, lowered-drop-6, lowered-protocolByte}
@@ -67,20 +69,46 @@ pub finish-fits : (start : ℕ) (q : List ℕ) → finish start q < 65536
 unfolding finish
 finish-fits start q = sent-fits (protocolByte q) (65535 - fold (words (drop start q))) (omega arith)
 
+-- ---- a packet in two parts
+
+-- what a tail counts: nothing, or its words, or behind an odd number of bytes 256 times as much
+module _ (n : ℕ) (tail : List ℕ) where
+  pub counts-none : length tail ≡ 0 → CountsBehind n tail 0
+  counts-none e = record { added = λ s l. fold-append-none s tail e }
+
+  pub counts-even : {r : ℕ} → n % 2 ≡ 0 → r ≡ words tail → CountsBehind n tail r
+  counts-even h e = record { added = λ s l. ap (λ (k : ℕ). fold (words s + k)) e ∙ fold-append-even s tail (ap (λ (k : ℕ). k % 2) l ∙ h) }
+
+  pub counts-odd : {r : ℕ} → (n % 2 ≡ 0 → ⊥) → r ≡ words tail → CountsBehind n tail (r * 256)
+  counts-odd h e =
+      record { added = λ s l. ap (λ (k : ℕ). fold (words s + k * 256)) e ∙ fold-append-odd s tail (ap (λ (k : ℕ). k % 2) l ∙ omega arith) }
+
+-- the protocol byte stands in the first part
+joined-protocolByte : (front tail : List ℕ) → 10 ≤ length front → protocolByte (front ++ tail) ≡ protocolByte front
+unfolding protocolByte
+joined-protocolByte front tail h =
+    rw (List·getD-append front tail 0 0 (omega arith), List·getD-append front tail 0 9 (omega arith), List·getD-append front tail 0 6 (omega arith))
+
 -- the steps by which the code finishes a checksum, and its three ends
-module _ (q : List ℕ) (start : ℕ) {sum f : ℕ} (added : sum ≡ words (take (length q - start) (drop start q))) (folded : f ≡ fold sum) where
-  finish-steps : finish start q ≡ sent (protocolByte q) (65535 - f)
+module _ (front rest : List ℕ) (start : ℕ) (ready : Summable start front rest) (near : ℕ) {far f : ℕ} (first : fold near ≡ fold (words (take (length front - start) (drop start front)))) (second : CountsBehind (length front - start) rest far) (folded : f ≡ fold (near + far)) where
+  summed : f ≡ fold (words (drop start (front ++ rest)))
+  summed =
+      let s = drop start front in
+      folded ∙ fold-cong near (words s) far (first ∙ ap (λ (x : List ℕ). fold (words x)) (tail start front)) ∙ second .added s (length-drop start front)
+      ∙ ap (λ (x : List ℕ). fold (words x)) (sym (drop-append-le start front rest (ready .inside)))
+
+  finish-steps : finish start (front ++ rest) ≡ sent (protocolByte front) (65535 - f)
   unfolding finish
-  finish-steps = rw (folded, added, tail start q)
+  finish-steps = rw (← summed, joined-protocolByte front rest (ready .headed))
 
-  pub finish-udp : 65535 - f ≡ 0 → protocolByte q ≡ 17 → finish start q ≡ 65535
-  finish-udp z e = finish-steps ∙ sent-udp (protocolByte q) (65535 - f) z e
+  pub finish-udp : 65535 - f ≡ 0 → protocolByte front ≡ 17 → finish start (front ++ rest) ≡ 65535
+  finish-udp z e = finish-steps ∙ sent-udp (protocolByte front) (65535 - f) z e
 
-  pub finish-other : (protocolByte q ≡ 17 → ⊥) → finish start q ≡ 65535 - f
-  finish-other n = finish-steps ∙ sent-other (protocolByte q) (65535 - f) n
+  pub finish-other : (protocolByte front ≡ 17 → ⊥) → finish start (front ++ rest) ≡ 65535 - f
+  finish-other n = finish-steps ∙ sent-other (protocolByte front) (65535 - f) n
 
-  pub finish-nonzero : (65535 - f ≡ 0 → ⊥) → finish start q ≡ 65535 - f
-  finish-nonzero n = finish-steps ∙ sent-nonzero (protocolByte q) (65535 - f) n
+  pub finish-nonzero : (65535 - f ≡ 0 → ⊥) → finish start (front ++ rest) ≡ 65535 - f
+  finish-nonzero n = finish-steps ∙ sent-nonzero (protocolByte front) (65535 - f) n
 
 -- what lowering a packet keeps
 module _ (p : List ℕ) where

@@ -1,6 +1,6 @@
 -- The laws of `words` and `fold` that proofs cite, beside those of `SumLaws`. Assumes nothing.
 use mathlib.Core.Path.{_≡_, refl, ap, sym, _∙_}
-use mathlib.Core.List.{List, [], _∷_}
+use mathlib.Core.List.{List, [], _∷_, _++_, append-nil}
 use Prim.Native.Nat.{ℕ, zero, suc, _+_, _-_, _*_, _/_, _%_, _≤_, _<_}
 use native.Mathlib.Omega.{arith}
 use native.Mathlib.Numerals.{add-one}
@@ -99,3 +99,56 @@ words-cut (suc zero) l h = absurd (omega arith)
 words-cut (suc (suc n)) [] h = refl
 words-cut (suc (suc n)) (a ∷ []) h = omega arith
 words-cut (suc (suc n)) (a ∷ b ∷ r) h = omega (arith, words-cut n r (omega arith))
+
+-- a byte in front of others is a high half, and they change halves
+words-cons : (x : ℕ) (l : List ℕ) → words (x ∷ l) ≡ x * 256 + words (0 ∷ l)
+unfolding words
+words-cons x [] = omega arith
+words-cons x (y ∷ l) = omega arith
+
+-- the sum of the bytes that are high halves
+unfoldable highs : List ℕ → ℕ
+highs [] = 0
+highs (a ∷ []) = a
+highs (a ∷ b ∷ r) = a + highs r
+
+words-shift : (l : List ℕ) → 256 * words l ≡ words (0 ∷ l) + 65535 * highs l
+unfolding words highs
+words-shift [] = refl
+words-shift (a ∷ []) = omega arith
+words-shift (a ∷ b ∷ r) = omega (arith, words-cons b r, words-shift r)
+
+highs-low : (l : List ℕ) → highs l ≤ words (0 ∷ l)
+unfolding words highs
+highs-low [] = omega arith
+highs-low (a ∷ []) = omega arith
+highs-low (a ∷ b ∷ r) = omega (arith, words-cons b r, highs-low r)
+
+fold-multiple : (s k : ℕ) → k ≤ s → fold (s + 65535 * k) ≡ fold s
+fold-multiple zero k h = let e : 0 + 65535 * k ≡ 0 = omega arith in ap fold e
+fold-multiple (suc s) k h = fold-past (suc s) k (omega arith)
+
+words-append-even : (s l : List ℕ) → length s % 2 ≡ 0 → words (s ++ l) ≡ words s + words l
+unfolding words
+words-append-even [] l h = omega arith
+words-append-even (a ∷ []) l h = absurd (omega arith)
+words-append-even (a ∷ b ∷ r) l h = omega (arith, words-append-even r l (omega arith))
+
+words-append-odd : (s l : List ℕ) → length s % 2 ≡ 1 → words (s ++ l) ≡ words s + words (0 ∷ l)
+unfolding words
+words-append-odd [] l h = absurd (omega arith)
+words-append-odd (a ∷ []) l h = omega (arith, words-cons a l)
+words-append-odd (a ∷ b ∷ r) l h = omega (arith, words-append-odd r l (omega arith))
+
+-- behind an odd number of bytes a sum counts 256 times
+pub fold-append-odd : (s l : List ℕ) → length s % 2 ≡ 1 → fold (words s + words l * 256) ≡ fold (words (s ++ l))
+fold-append-odd s l h =
+    let e : words s + words l * 256 ≡ words s + words (0 ∷ l) + 65535 * highs l = omega (arith, words-shift l) in
+    ap fold e ∙ fold-multiple (words s + words (0 ∷ l)) (highs l) (omega (arith, highs-low l)) ∙ ap fold (sym (words-append-odd s l h))
+
+pub fold-append-even : (s l : List ℕ) → length s % 2 ≡ 0 → fold (words s + words l) ≡ fold (words (s ++ l))
+fold-append-even s l h = ap fold (sym (words-append-even s l h))
+
+pub fold-append-none : (s l : List ℕ) → length l ≡ 0 → fold (words s + 0) ≡ fold (words (s ++ l))
+fold-append-none s [] h = let e : words s + 0 ≡ words s = omega arith in ap fold e ∙ ap (λ (x : List ℕ). fold (words x)) (sym (append-nil s))
+fold-append-none s (x ∷ l) h = absurd (omega arith)

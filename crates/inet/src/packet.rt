@@ -1,8 +1,9 @@
 // The form of a packet, and what its header says.
 ghost use mathlib.Core.Path.{_≡_};
-ghost use Prim.Native.Nat.{_≤_, _<_, _+_, _*_};
+ghost use Prim.Native.Nat.{_≤_, _<_, _+_, _*_, min};
 ghost use lib.ListN.{length, getD};
-ghost use Rattle.inet.specs.Packet.{versionOf, form4, form6, form, Form, address4At, address6At, sourceOf, destinationOf};
+ghost use Rattle.inet.specs.Packet.{versionOf, form4, form6, form, address4At, address6At, sourceOf, destinationOf};
+ghost use Rattle.inet.specs.Fronts.{maxHeader, Tells, Addressed};
 ghost use Rattle.inet.specs.Packet.{protocolOf, protocolByte, isIcmp, hopPlace, hopsOf};
 use super::Address;
 use super::sum::folded;
@@ -13,20 +14,29 @@ use super::sum::word;
 pub fn form(packet: &[u8]) -> bool
     ensures { λ r. ⌜ r ≡ form (now (packet .entry)) ⌝ }
 {
-    let v = version(packet);
+    front_form(packet, packet.len())
+}
+
+// The same of a packet of so many bytes, of which the front is here: its header tells.
+pub fn front_form(front: &[u8], size: usize) -> bool
+    requires { ⌜ min maxHeader size ≤ length (now front) ⌝ }
+    ensures { λ r. ⌜ Tells form (now (front .entry)) size r ⌝ }
+{
+    let v = version(front);
     if v == 4 {
-        return ipv4_form(packet);
+        return ipv4_form(front, size);
     }
     if v == 6 {
-        return ipv6_form(packet);
+        return ipv6_form(front, size);
     }
     false
 }
 
-fn ipv4_form(p: &[u8]) -> bool
-    ensures { λ r. ⌜ r ≡ form4 (now (p .entry)) ⌝ }
+fn ipv4_form(p: &[u8], size: usize) -> bool
+    requires { ⌜ min maxHeader size ≤ length (now p) ⌝ }
+    ensures { λ r. ⌜ Tells form4 (now (p .entry)) size r ⌝ }
 {
-    if p.len() < 20 {
+    if size < 20 {
         return false;
     }
     if p[0] / 16 != 4 {
@@ -37,10 +47,10 @@ fn ipv4_form(p: &[u8]) -> bool
         return false;
     }
     let n = ihl as usize * 4;
-    if p.len() < n {
+    if size < n {
         return false;
     }
-    if word(p[2], p[3]) != p.len() as u64 {
+    if word(p[2], p[3]) != size as u64 {
         return false;
     }
     if folded(sum_quads(&p[..n])) != 65535 {
@@ -49,16 +59,17 @@ fn ipv4_form(p: &[u8]) -> bool
     true
 }
 
-fn ipv6_form(p: &[u8]) -> bool
-    ensures { λ r. ⌜ r ≡ form6 (now (p .entry)) ⌝ }
+fn ipv6_form(p: &[u8], size: usize) -> bool
+    requires { ⌜ min maxHeader size ≤ length (now p) ⌝ }
+    ensures { λ r. ⌜ Tells form6 (now (p .entry)) size r ⌝ }
 {
-    if p.len() < 40 {
+    if size < 40 {
         return false;
     }
     if p[0] / 16 != 6 {
         return false;
     }
-    if word(p[4], p[5]) + 40 != p.len() as u64 {
+    if word(p[4], p[5]) + 40 != size as u64 {
         return false;
     }
     true
@@ -77,9 +88,9 @@ pub fn version(packet: &[u8]) -> u8
     byte_at(packet, 0) / 16
 }
 
-// The source address. The form tells that the address is all there.
+// The source address, of a packet or the front of one.
 pub fn source(packet: &[u8]) -> Address
-    requires { ⌜ Form (now packet) ⌝ }
+    requires { ⌜ Addressed (now packet) ⌝ }
     ensures { λ r. ⌜ r ≡ sourceOf (now (packet .entry)) ⌝ }
 {
     if version(packet) == 4 {
@@ -88,9 +99,9 @@ pub fn source(packet: &[u8]) -> Address
     address6(packet, 8)
 }
 
-// The destination address. The form tells that the address is all there.
+// The destination address likewise.
 pub fn destination(packet: &[u8]) -> Address
-    requires { ⌜ Form (now packet) ⌝ }
+    requires { ⌜ Addressed (now packet) ⌝ }
     ensures { λ r. ⌜ r ≡ destinationOf (now (packet .entry)) ⌝ }
 {
     if version(packet) == 4 {

@@ -2,13 +2,15 @@
 use Prim.Native.Nat.{ℕ, _≤_}
 use mathlib.Core.Bool.{Bool, true, false, _||_}
 use mathlib.Core.Path.{_≡_, refl, sym}
-use mathlib.Core.List.{List, [], _∷_}
+use mathlib.Core.List.{List, [], _∷_, _++_}
 use lib.Dec.{eqb}
 use Rattle.answer.proofs.Tests.{and-both}
 use Rattle.octets.specs.Parts.{part}
 use Rattle.inet.specs.declared.Address.{Address}
 use Rattle.inet.specs.Packet.{versionOf, sourceOf, destinationOf, protocolOf, isIcmp, lowered}
+use Rattle.inet.specs.Fronts.{Addressed}
 use Rattle.inet.proofs.HeaderLaws.{isIcmp-6}
+use Rattle.inet.proofs.AddressLaws.{joined-source, joined-destination, joined-protocol, joined-icmp}
 use Rattle.inet.proofs.LoweredLaws.{lowered-sourceOf, lowered-destinationOf, lowered-protocolOf, lowered-isIcmp}
 use Rattle.lists.specs.declared.RouteRange.{RouteRange}
 use Rattle.octets.specs.Scan.{anyOf}
@@ -29,6 +31,12 @@ flow-parts p e f g h = rw (e, f, g, h)
 pub flow-lowered : (p : List ℕ) → flowOf (lowered p) ≡ flowOf p
 unfolding flowOf
 flow-lowered p = rw (lowered-sourceOf p, lowered-destinationOf p, lowered-protocolOf p, lowered-isIcmp p)
+
+-- all of it stands in the front
+pub flow-joined : (front tail : List ℕ) → Addressed front → flowOf (front ++ tail) ≡ flowOf front
+unfolding flowOf
+flow-joined front tail a =
+    rw (joined-source front tail a, joined-destination front tail a, joined-protocol front tail a, joined-icmp front tail a)
 
 -- protocol 1 is not ICMP in IPv6
 pub icmp-6-not-1 : (p : List ℕ) → versionOf p ≡ 6 → protocolOf p ≡ 1 → isIcmp p ≡ false

@@ -11,7 +11,7 @@ ghost use mathlib.Core.Path.{_≡_};
 ghost use mathlib.Core.Bool.{true};
 ghost use Prim.Native.Nat.{_≤_};
 ghost use lib.ListN.{length};
-ghost use Rattle.inet.specs.Packet.{Form};
+ghost use Rattle.inet.specs.Fronts.{Addressed};
 ghost use Rattle.policy.specs.Granted.{flowOf, sideWords, sideIn, soundSide, passes};
 ghost use Rattle.policy.specs.Parts.{address, grantedBy};
 
@@ -27,9 +27,9 @@ pub struct Flow {
     pub icmp: bool,
 }
 
-// What a packet of good form says.
+// What a packet says, by its front.
 pub fn flow_of(packet: &[u8]) -> Flow
-    requires { ⌜ Form (now packet) ⌝ }
+    requires { ⌜ Addressed (now packet) ⌝ }
     ensures { λ r. ⌜ r ≡ flowOf (now (packet .entry)) ⌝ }
 {
     let source = inet::packet::source(packet);

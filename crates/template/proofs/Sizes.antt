@@ -16,7 +16,7 @@ use Rattle.table.specs.declared.Head.{Head}
 use Rattle.table.specs.declared.Segment.{Segment}
 use Rattle.template.specs.Pieces.{lastEnd}
 use Rattle.template.specs.Datagrams.{sumEnd, reaches}
-use Rattle.template.specs.Usable.{piecesOf}
+use Rattle.template.specs.Usable.{piecesOf, reachesAt}
 use Rattle.template.proofs.Steps.{segmentEnd, piecesFrom, window-length, pieces-all, pieces-step, pieces-done, sum-facts}
 
 -- ascending pieces lie one behind the other, within the limit
@@ -76,19 +76,24 @@ last-end t {n} q h e =
 pub last-none : (t : List ℕ) {n : ℕ} → n ≡ headOf t .count → n ≡ 0 → 0 ≡ lastEnd 0 (piecesOf t)
 last-none t q h = sym (ap (lastEnd 0) (pieces-all t ∙ pieces-done t 0 (headOf t .count) (omega arith)))
 
--- whether bytes reach
-module _ (t v : List ℕ) where
-  pub reaches-short : staticSize (piecesOf t) + length v < lastEnd 0 (piecesOf t) → reaches (templateOf t) v ≡ false
-  unfolding reaches
+-- whether a packet of n bytes reaches
+module _ (t : List ℕ) {n : ℕ} where
+  pub reaches-short : n < lastEnd 0 (piecesOf t) → reachesAt (templateOf t) n ≡ false
   reaches-short h = rw (lt-leb _ _ h)
 
-  pub reaches-sum : {head : Head} → head ≡ headOf t → lastEnd 0 (piecesOf t) ≤ staticSize (piecesOf t) + length v → head .checksum ≡ true → reaches (templateOf t) v ≡ leb (head .field + 2) (staticSize (piecesOf t) + length v)
-  unfolding reaches templateOf
+  pub reaches-sum : {head : Head} → head ≡ headOf t → lastEnd 0 (piecesOf t) ≤ n → head .checksum ≡ true → reachesAt (templateOf t) n ≡ leb (head .field + 2) n
+  unfolding templateOf
   reaches-sum q h e = rw q (rw (le-leb _ _ h, rw q at e))
 
-  pub reaches-plain : {head : Head} → head ≡ headOf t → lastEnd 0 (piecesOf t) ≤ staticSize (piecesOf t) + length v → head .checksum ≡ false → reaches (templateOf t) v ≡ true
-  unfolding reaches templateOf
-  reaches-plain q h e = rw (le-leb _ _ h, rw q at e) (le-leb 0 (staticSize (piecesOf t) + length v) (omega arith))
+  pub reaches-plain : {head : Head} → head ≡ headOf t → lastEnd 0 (piecesOf t) ≤ n → head .checksum ≡ false → reachesAt (templateOf t) n ≡ true
+  unfolding templateOf
+  reaches-plain q h e = rw (le-leb _ _ h, rw q at e) (le-leb 0 n (omega arith))
+
+-- whether bytes do
+module _ (t v : List ℕ) where
+  pub reaches-size : {n : ℕ} → n ≡ staticSize (piecesOf t) + length v → reachesAt (templateOf t) n ≡ reaches (templateOf t) v
+  unfolding reaches
+  reaches-size e = rw e
 
   pub reaches-end : reaches (templateOf t) v ≡ true → lastEnd 0 (piecesOf t) ≤ staticSize (piecesOf t) + length v
   unfolding reaches

@@ -1,13 +1,14 @@
 -- What the code asks of a table and what it hands back.
-use Prim.Native.Nat.{ℕ, _+_, _-_, _%_, _≤_, _<_}
+use Prim.Native.Nat.{ℕ, _+_, _-_, _%_, _≤_, _<_, min}
 use mathlib.Core.Path.{_≡_}
-use mathlib.Core.Bool.{Bool, true}
-use mathlib.Core.List.{List}
+use mathlib.Core.Bool.{Bool, true, _&&_}
+use mathlib.Core.List.{List, _++_}
+use lib.Dec.{leb}
 use lib.ListN.{length, take, drop}
 use Rattle.inet.specs.Packet.{Form, lowered}
 use Rattle.inet.specs.Transport.{seed, setField}
 use Rattle.table.specs.Limits.{staticLimit}
-use Rattle.table.specs.Templates.{Piece, Sum, noSum, sumAt, staticSize}
+use Rattle.table.specs.Templates.{Piece, Sum, noSum, sumAt, Template, staticSize}
 use Rattle.table.specs.Words.{window, templateOf, countIn, wordsAt, templatesOf}
 use Rattle.table.specs.Sound.{UsableTemplate}
 use Rattle.template.specs.declared.Found.{Found}
@@ -95,12 +96,17 @@ pub record Shortenable (t front tail out : List ℕ) (at : ℕ) : Type 0 where
   pub inside : lastEnd 0 (piecesOf t) ≤ length front
   pub room : at + length front + length tail ≤ length out
 
--- the bytes reach, and the packet fits an image of n bytes, of which a sum can be made
-pub record Rebuildable (t v : List ℕ) (n : ℕ) : Type 0 where
+-- a packet of n bytes reaches the last segment's end and the field's end
+abbrev pub reachesAt : Template → ℕ → Bool
+reachesAt t n = leb (lastEnd 0 (t .pieces)) n && leb (sumEnd (t .sum)) n
+
+-- the bytes reach; of them v goes into the front, which has all that templates look at, fits an image of n bytes, and goes on with far
+pub record Rebuildable (t v far : List ℕ) (n : ℕ) : Type 0 where
   pub usable : UsableTemplate t
-  pub reach : reaches (templateOf t) v ≡ true
+  pub reach : reaches (templateOf t) (v ++ far) ≡ true
+  pub front : min staticLimit (staticSize (piecesOf t) + length v + length far) ≤ staticSize (piecesOf t) + length v
   pub small : staticSize (piecesOf t) + length v ≤ n
-  pub summable : n ≤ 65535
+  pub summable : staticSize (piecesOf t) + length v + length far ≤ 65535
 
 -- the bytes reach the last segment's end, and there is room for the packet
 pub record Weavable (t v out : List ℕ) : Type 0 where
@@ -108,14 +114,20 @@ pub record Weavable (t v out : List ℕ) : Type 0 where
   pub reach : lastEnd 0 (piecesOf t) ≤ staticSize (piecesOf t) + length v
   pub room : staticSize (piecesOf t) + length v ≤ length out
 
--- the field lies in the first n bytes, behind the start
-pub record Completable (field start n : ℕ) (image : List ℕ) : Type 0 where
+-- the field lies in the first n bytes of a packet that goes on with far, behind the start
+pub record Completable (field start n : ℕ) (far image : List ℕ) : Type 0 where
+  pub low : 10 ≤ start
   pub order : start ≤ field
   pub inside : field + 2 ≤ n
   pub room : n ≤ length image
-  pub small : n ≤ 65535
+  pub small : n + length far ≤ 65535
 
 -- the packet q at the front of an image
 pub record Begins (q image : List ℕ) (r : ℕ) : Type 0 where
   pub size : r ≡ length q
   pub front : take r image ≡ q
+
+-- the packet q, r bytes of it at the front of an image, which goes on with far
+pub record Continues (q far image : List ℕ) (r : ℕ) : Type 0 where
+  pub size : r + length far ≡ length q
+  pub whole : take r image ++ far ≡ q

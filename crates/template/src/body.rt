@@ -7,10 +7,9 @@ ghost use Rattle.output.specs.Places.{Put};
 ghost use Rattle.table.specs.Limits.{staticLimit};
 ghost use Rattle.table.specs.Words.{templateWords, templateOf, window};
 ghost use Rattle.table.specs.Sound.{UsableTemplate};
-ghost use Rattle.table.specs.Templates.{staticSize};
 ghost use Rattle.template.specs.Pieces.{strip, weave, lastEnd};
-ghost use Rattle.template.specs.Datagrams.{rebuilt, reaches};
-ghost use Rattle.template.specs.Usable.{piecesOf, Shortenable, Rebuildable, Weavable, Completable, Begins};
+ghost use Rattle.template.specs.Datagrams.{rebuilt};
+ghost use Rattle.template.specs.Usable.{piecesOf, Shortenable, reachesAt, Rebuildable, Weavable, Completable, Begins, Continues};
 ghost use Rattle.inet.specs.Transport.{setField, finish};
 use inet::field::put_word;
 use inet::transport::finish;
@@ -19,7 +18,6 @@ use output::put_many;
 use table::byte_at;
 use table::judged_head;
 use table::segment_at;
-use table::static_size;
 
 // Writes the bytes outside the segments of a packet, whose front has all segments, to out from the place at on, and returns the place behind them.
 pub fn shorten(t: &[u64], front: &[u8], tail: &[u8], out: &mut [u8], at: usize) -> usize
@@ -50,30 +48,20 @@ fn copy_range(src: &[u8], from: usize, to: usize, out: &mut [u8], at: usize) -> 
     put_bytes(out, at, &src[from..to])
 }
 
-// Whether the bytes behind a Context ID reach the last segment's end and the field's end.
-pub fn reaches(t: &[u64], body: &[u8]) -> bool
+// Whether a packet of so many bytes reaches the last segment's end and the field's end.
+pub fn reaches(t: &[u64], size: usize) -> bool
     requires { ⌜ templateWords ≤ length (now t) ⌝ }
     requires { ⌜ UsableTemplate (now t) ⌝ }
-    ensures { λ r. ⌜ r ≡ reaches (templateOf (now (t .entry))) (now (body .entry)) ⌝ }
+    ensures { λ r. ⌜ r ≡ reachesAt (templateOf (now (t .entry))) size ⌝ }
 {
-    let n = rebuilt_length(t, body);
-    if n < last_end(t) {
+    if size < last_end(t) {
         return false;
     }
     let head = judged_head(t);
     if head.checksum {
-        return head.field + 2 <= n;
+        return head.field + 2 <= size;
     }
     true
-}
-
-// The length of the packet that those bytes stand for.
-pub fn rebuilt_length(t: &[u64], body: &[u8]) -> usize
-    requires { ⌜ templateWords ≤ length (now t) ⌝ }
-    requires { ⌜ UsableTemplate (now t) ⌝ }
-    ensures { λ r. ⌜ r ≡ staticSize (piecesOf (now (t .entry))) + length (now (body .entry)) ⌝ }
-{
-    static_size(t) + body.len()
 }
 
 // Where the last segment ends.
@@ -90,31 +78,31 @@ fn last_end(t: &[u64]) -> usize
     s.offset + s.length
 }
 
-// Builds the packet at the front of image, completes its sum, and returns its length.
-pub fn rebuild(t: &[u64], body: &[u8], image: &mut [u8]) -> usize
+// Builds the front of the packet that near and far together stand for, at the front of image, completes its sum, and returns the front's length: it has all
+// that the template says. The packet goes on with far, of which only the sum is looked at.
+pub fn rebuild<'a>(t: &[u64], near: &'a [u8], far: &'a [u8], image: &mut [u8]) -> usize
     requires { ⌜ templateWords ≤ length (now t) ⌝ }
-    requires { ⌜ Rebuildable (now t) (now body) (length (now image)) ⌝ }
-    ensures { λ r. ⌜ Begins (rebuilt (templateOf (now (t .entry))) (now (body .entry))) (now (image .exit)) r ⌝ }
+    requires { ⌜ Rebuildable (now t) (now near) (now far) (length (now image)) ⌝ }
+    ensures { λ r. ⌜ Continues (rebuilt (templateOf (now (t .entry))) (now (near .entry) ++ now (far .entry))) (now (far .entry)) (now (image .exit)) r ⌝ }
 {
-    let n = weave_into(t, body, image);
+    let n = weave_into(t, near, image);
     let head = judged_head(t);
     if head.checksum {
-        complete(image, n, head.field, head.start);
+        complete(image, n, far, head.field, head.start);
     }
     n
 }
 
-// Completes the sum of the packet that the first n bytes of image are, which has the seed in its field.
-fn complete(image: &mut [u8], n: usize, field: usize, start: usize)
-    requires { ⌜ Completable field start n (now image) ⌝ }
-    ensures { λ _. ⌜ now (image .exit) ≡ setField field (finish start (take n (now (image .entry)))) (now (image .entry)) ⌝ }
+// Completes the sum of the packet that the first n bytes of image and far are, which has the seed in its field.
+fn complete(image: &mut [u8], n: usize, far: &[u8], field: usize, start: usize)
+    requires { ⌜ Completable field start n (now far) (now image) ⌝ }
+    ensures { λ _. ⌜ now (image .exit) ≡ setField field (finish start (take n (now (image .entry)) ++ now (far .entry))) (now (image .entry)) ⌝ }
 {
-    let sum = finish(&image[..n], start);
+    let sum = finish(&image[..n], far, start);
     put_word(image, field, sum);
 }
 
-// Puts the segments' bytes and the others together. Both stand at their places: pos is the end of what is written. The last piece is put by a loop of small stores,
-// though it may be long: it is summed at once, and what `memmove` wrote in large ones could not be loaded before it has reached the cache.
+// Puts the segments' bytes and the others together. Both stand at their places: pos is the end of what is written.
 fn weave_into(t: &[u64], body: &[u8], image: &mut [u8]) -> usize
     requires { ⌜ templateWords ≤ length (now t) ⌝ }
     requires { ⌜ Weavable (now t) (now body) (now image) ⌝ }

@@ -13,6 +13,9 @@ use Rattle.answer.specs.declared.Answer.the-variants.{Done, Refused}
 use Rattle.answer.specs.declared.Verdict.the-variants.{Go, Stop}
 use Rattle.answer.specs.Verdict.{firstOf, Writes}
 use Rattle.inet.specs.Packet.{form}
+use Rattle.inet.specs.Fronts.{Addressed}
+use Rattle.policy.specs.Granted.{passes}
+use Rattle.policy.proofs.PassLaws.{flow-joined}
 use Rattle.state.specs.State.{State, soundState, receivingGranted, stateIn}
 use Rattle.template.specs.Datagrams.{Opened, refused}
 use Rattle.tunnel.specs.Tunnel.{receiveRoom, receiveTests, packetTests, receivedBytes, Receives}
@@ -53,6 +56,13 @@ module _ (s : State) (q : List ℕ) {b : Bool} (e : b ≡ form q) where
     packet-copied k out l w =
         rw (facts-packet s q (sym e ∙ f) (sym p ∙ k))
         (record { answer = ap Done l; output = w ∙ ap (λ (x : List ℕ). x ++ drop (length q) out) (take-length q) })
+
+-- ---- a packet in two parts
+
+-- the front grants what the packet does
+pub granted-joined : (s : State) (front tail : List ℕ) → Addressed front → {b : Bool} → b ≡ receivingGranted s front → b ≡ receivingGranted s (front ++ tail)
+unfolding receivingGranted
+granted-joined s front tail a e = e ∙ ap (passes (s .given) (s .received)) (sym (flow-joined front tail a))
 
 -- ---- what was opened
 

@@ -1,19 +1,27 @@
 // From a datagram to a packet.
 use super::RECEIVE_ROOM;
 use super::granted::granted;
+use super::sending::least;
 use answer::Answer;
 use answer::Refusal;
 use answer::Verdict;
+use inet::packet::form;
+use inet::packet::front_form;
+use output::put_bytes;
+use output::put_many;
 use state::STATE_WORDS;
 use state::STORE_AT;
 use state::TABLE_AT;
 use state::state_sound;
 use table::ContextId;
+use table::STATIC_LIMIT;
 use table::TEMPLATE_WORDS;
+use table::static_size;
 use template::Found;
 use template::MAX_PACKET;
 use varint::NumberRead;
 ghost use mathlib.Core.Path.{_≡_};
+ghost use mathlib.Core.List.{_++_};
 ghost use Prim.Native.Nat.{_≤_};
 ghost use lib.ListN.{length};
 ghost use Rattle.answer.specs.Verdict.{firstOf};
@@ -21,13 +29,9 @@ ghost use Rattle.table.specs.Words.{templateWords, templateOf};
 ghost use Rattle.table.specs.Sound.{UsableTemplate};
 ghost use Rattle.state.specs.State.{stateWords, stateIn};
 ghost use Rattle.template.specs.Fits.{listed};
-ghost use Rattle.template.specs.Datagrams.{maxPacket, rebuilt, packet, withinLimit, openShort};
-ghost use Rattle.template.specs.Usable.{Rebuildable};
-ghost use Rattle.tunnel.specs.Opening.{smallImage, openedIn, shortIn, Receivable, Takable, Takes};
+ghost use Rattle.template.specs.Datagrams.{packet, withinLimit, openShort};
+ghost use Rattle.tunnel.specs.Opening.{openedIn, shortIn, opens, Receivable, Openable, Takable, Joinable, Takes};
 ghost use Rattle.tunnel.specs.Tunnel.{receiveTests, Receives};
-
-// The bytes of a small image.
-const SMALL_IMAGE: usize = 128;
 
 // Writes the packet that a datagram stands for to the front of out.
 pub fn receive(state: &[u64; STATE_WORDS], datagram: &[u8], out: &mut [u8]) -> Answer
@@ -105,45 +109,56 @@ fn take_short(state: &[u64], id: ContextId, body: &[u8], out: &mut [u8]) -> Answ
     }
 }
 
-// By the words of a template. A short packet is rebuilt in a small image: clearing a large one would take a quarter of its time.
+// By the words of a template. It looks at no byte past the front of a packet: what lies behind is neither built nor moved before the packet is judged.
 fn take_by(state: &[u64], t: &[u64], body: &[u8], out: &mut [u8]) -> Answer
     requires { ⌜ (stateWords ≤ length (now state)) × (templateWords ≤ length (now t)) ⌝ }
     requires { ⌜ (Receivable (now state) (now out)) × (UsableTemplate (now t)) ⌝ }
     ensures { λ r. ⌜ Takes (now (state .entry)) (openShort (now (body .entry)) (listed (templateOf (now (t .entry))))) (now (out .entry)) r (now (out .exit)) ⌝ }
 {
-    if !template::body::reaches(t, body) {
+    let size = static_size(t);
+    let n = size + body.len();
+    if !template::body::reaches(t, n) {
         return Answer::Refused(Refusal::CutDatagram);
     }
-    let n = template::body::rebuilt_length(t, body);
     if MAX_PACKET < n {
         return Answer::Refused(Refusal::PacketTooLong);
     }
-    if n <= SMALL_IMAGE {
-        return take_small(state, t, body, out);
+    let used = least(n, STATIC_LIMIT) - size;
+    take_rebuilt(state, t, &body[..used], &body[used..], out)
+}
+
+// From the bytes that go into the front of the packet, and those behind it.
+fn take_rebuilt<'a>(
+    state: &[u64],
+    t: &[u64],
+    near: &'a [u8],
+    far: &'a [u8],
+    out: &mut [u8],
+) -> Answer
+    requires { ⌜ (stateWords ≤ length (now state)) × (templateWords ≤ length (now t)) ⌝ }
+    requires { ⌜ (Receivable (now state) (now out)) × (Openable (now t) (now near) (now far)) ⌝ }
+    ensures { λ r. ⌜ Takes (now (state .entry)) (opens (now (t .entry)) (now (near .entry)) (now (far .entry))) (now (out .entry)) r (now (out .exit)) ⌝ }
+{
+    let mut front = [0u8; STATIC_LIMIT];
+    let n = template::body::rebuild(t, near, far, &mut front);
+    take_joined(state, &front[..n], far, out)
+}
+
+// Judges a packet in two parts, and copies them to the front of out.
+fn take_joined<'a>(state: &[u64], front: &'a [u8], tail: &'a [u8], out: &mut [u8]) -> Answer
+    requires { ⌜ stateWords ≤ length (now state) ⌝ }
+    requires { ⌜ Joinable (now state) (now front) (now tail) (now out) ⌝ }
+    ensures { λ r. ⌜ Takes (now (state .entry)) (packet (now (front .entry) ++ now (tail .entry))) (now (out .entry)) r (now (out .exit)) ⌝ }
+{
+    if !front_form(front, front.len() + tail.len()) {
+        return Answer::Refused(Refusal::BadForm);
     }
-    take_large(state, t, body, out)
-}
-
-// A packet that fits a small image.
-fn take_small(state: &[u64], t: &[u64], body: &[u8], out: &mut [u8]) -> Answer
-    requires { ⌜ (stateWords ≤ length (now state)) × (templateWords ≤ length (now t)) ⌝ }
-    requires { ⌜ (Receivable (now state) (now out)) × (Rebuildable (now t) (now body) smallImage) ⌝ }
-    ensures { λ r. ⌜ Takes (now (state .entry)) (packet (rebuilt (templateOf (now (t .entry))) (now (body .entry)))) (now (out .entry)) r (now (out .exit)) ⌝ }
-{
-    let mut image = [0u8; SMALL_IMAGE];
-    let n = template::body::rebuild(t, body, &mut image);
-    take_in(state, &image[..n], out)
-}
-
-// Any packet within the limit.
-fn take_large(state: &[u64], t: &[u64], body: &[u8], out: &mut [u8]) -> Answer
-    requires { ⌜ (stateWords ≤ length (now state)) × (templateWords ≤ length (now t)) ⌝ }
-    requires { ⌜ (Receivable (now state) (now out)) × (Rebuildable (now t) (now body) maxPacket) ⌝ }
-    ensures { λ r. ⌜ Takes (now (state .entry)) (packet (rebuilt (templateOf (now (t .entry))) (now (body .entry)))) (now (out .entry)) r (now (out .exit)) ⌝ }
-{
-    let mut image = [0u8; MAX_PACKET];
-    let n = template::body::rebuild(t, body, &mut image);
-    take_in(state, &image[..n], out)
+    if !granted(state, front, false) {
+        return Answer::Refused(Refusal::NotGranted);
+    }
+    let n = put_bytes(out, 0, front);
+    let end = put_many(out, n, tail);
+    Answer::Done(end)
 }
 
 // Judges a packet, and copies it to the front of out.
@@ -152,7 +167,7 @@ fn take_in(state: &[u64], inner: &[u8], out: &mut [u8]) -> Answer
     requires { ⌜ Takable (now state) (now inner) (now out) ⌝ }
     ensures { λ r. ⌜ Takes (now (state .entry)) (packet (now (inner .entry))) (now (out .entry)) r (now (out .exit)) ⌝ }
 {
-    if !inet::packet::form(inner) {
+    if !form(inner) {
         return Answer::Refused(Refusal::BadForm);
     }
     if !granted(state, inner, false) {

@@ -106,7 +106,7 @@ fn put_searched(table: &[u64], packet: &[u8], out: &mut [u8]) -> usize
     }
 }
 
-fn least(a: usize, b: usize) -> usize
+pub(crate) fn least(a: usize, b: usize) -> usize
     ensures { λ r. ⌜ r ≡ min a b ⌝ }
 {
     if a < b {

@@ -1,30 +1,17 @@
--- The version tells which of the two tests is the form. Assumes nothing.
-use mathlib.Core.Path.{sym, _∙_}
+-- A packet is all of its own front. Assumes nothing.
+use mathlib.Core.Path.{ap, _∙_}
+use mathlib.Core.List.{[], append-nil}
 use native.Mathlib.Omega.{arith}
-use Rattle.inet.proofs.FormFacts.{form-of-4, form-of-6, form-of-other}
+use Rattle.inet.specs.Packet.{form}
 use borrow.Author.Needs.{needs}
 use Rattle.inet.proofs.packet.form.Statement.{statement}
 use Rattle.inet.proofs.packet.form.Tie as tie
 
-version-requires : tie.Need-version-requires
-version-requires c κs = search needs
-
-ipv4-form-requires : tie.Need-ipv4-form-requires
-ipv4-form-requires c κs = search needs
+front-form-requires : tie.Need-front-form-requires
+front-form-requires c κs = search needs
 
 returns : tie.Need-returns
-returns c = c .ipv4-form .ensures ∙ form-of-4 _ (omega arith)
-
-ipv6-form-requires : tie.Need-ipv6-form-requires
-ipv6-form-requires c κs = search needs
-
-returns-2 : tie.Need-returns-2
-returns-2 c = c .ipv6-form .ensures ∙ form-of-6 _ (omega arith)
-
-returns-3 : tie.Need-returns-3
-returns-3 c = sym (form-of-other _ (λ e. omega arith) (λ e. omega arith))
+returns c = c .front-form .ensures .told [] (omega arith) ∙ ap form (append-nil _)
 
 pub form-spec : {M : Type 1} → statement M
-form-spec =
-    tie.close
-    (tie.spec version-requires ipv4-form-requires returns ipv6-form-requires returns-2 returns-3)
+form-spec = tie.close (tie.spec front-form-requires returns)

@@ -1,26 +1,26 @@
--- A test that fails refutes the facts of `Form4`; all that pass prove them. Assumes nothing.
-use mathlib.Core.Path.{sym, _∙_}
+-- A test that fails refutes the facts of `Front4`; all that pass prove them. Assumes nothing.
+use mathlib.Core.Path.{_∙_}
 use native.Mathlib.Omega.{arith}
 use lib.ListN.{length-take}
-use Rattle.inet.proofs.FormFacts.{form4-fails, facts-form4}
+use Rattle.inet.proofs.FrontLaws.{tells-4, tells-not-4}
 use borrow.Author.Needs.{needs}
 use Rattle.inet.proofs.packet.ipv4_form.Statement.{statement}
 use Rattle.inet.proofs.packet.ipv4_form.Tie as tie
 
 returns : tie.Need-returns
-returns c = sym (form4-fails _ (λ f. omega arith))
+returns c = tells-not-4 (search needs) (λ f. omega arith)
 
 shared-slice-read-if2 : tie.Need-shared-slice-read-if2
 shared-slice-read-if2 c = search needs
 
 returns-2 : tie.Need-returns-2
-returns-2 c = sym (form4-fails _ (λ f. omega arith))
+returns-2 c = tells-not-4 (search needs) (λ f. omega arith)
 
 shared-slice-read-ihl : tie.Need-shared-slice-read-ihl
 shared-slice-read-ihl c = search needs
 
 returns-3 : tie.Need-returns-3
-returns-3 c = sym (form4-fails _ (λ f. omega arith))
+returns-3 c = tells-not-4 (search needs) (λ f. omega arith)
 
 cast-n : tie.Need-cast-n
 cast-n c = search needs
@@ -29,7 +29,7 @@ mul-n : tie.Need-mul-n
 mul-n c = search needs
 
 returns-4 : tie.Need-returns-4
-returns-4 c = sym (form4-fails _ (λ f. omega arith))
+returns-4 c = tells-not-4 (search needs) (λ f. omega arith)
 
 shared-slice-read-word : tie.Need-shared-slice-read-word
 shared-slice-read-word c = search needs
@@ -41,7 +41,7 @@ word-requires : tie.Need-word-requires
 word-requires c κs = search needs
 
 returns-5 : tie.Need-returns-5
-returns-5 c = sym (form4-fails _ (λ f. omega arith))
+returns-5 c = tells-not-4 (search needs) (λ f. omega arith)
 
 slice-aggregate-sum-quads : tie.Need-slice-aggregate-sum-quads
 slice-aggregate-sum-quads c = simp length-take (omega arith)
@@ -55,12 +55,12 @@ folded-requires c κs = search needs
 returns-6 : tie.Need-returns-6
 returns-6 c =
     let e = c .before .folded .ensures .0 ∙ c .before .before .sum-quads .ensures .0 in
-    sym (form4-fails _ (λ f. omega (arith, e)))
+    tells-not-4 (search needs) (λ f. omega (arith, e))
 
 returns-7 : tie.Need-returns-7
 returns-7 c =
     let e = c .before .folded .ensures .0 ∙ c .before .before .sum-quads .ensures .0 in
-    sym (facts-form4 _ (omega (arith, e)))
+    tells-4 (search needs) (omega (arith, e))
 
 pub ipv4-form-spec : {M : Type 1} → statement M
 ipv4-form-spec =

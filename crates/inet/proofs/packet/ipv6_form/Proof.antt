@@ -1,19 +1,18 @@
--- A test that fails refutes the facts of `Form6`; all that pass prove them. Assumes nothing.
-use mathlib.Core.Path.{sym}
+-- A test that fails refutes the facts of `Front6`; all that pass prove them. Assumes nothing.
 use native.Mathlib.Omega.{arith}
-use Rattle.inet.proofs.FormFacts.{form6-fails, facts-form6}
+use Rattle.inet.proofs.FrontLaws.{tells-6, tells-not-6}
 use borrow.Author.Needs.{needs}
 use Rattle.inet.proofs.packet.ipv6_form.Statement.{statement}
 use Rattle.inet.proofs.packet.ipv6_form.Tie as tie
 
 returns : tie.Need-returns
-returns c = sym (form6-fails _ (λ f. omega arith))
+returns c = tells-not-6 (search needs) (λ f. omega arith)
 
 shared-slice-read-if2 : tie.Need-shared-slice-read-if2
 shared-slice-read-if2 c = search needs
 
 returns-2 : tie.Need-returns-2
-returns-2 c = sym (form6-fails _ (λ f. omega arith))
+returns-2 c = tells-not-6 (search needs) (λ f. omega arith)
 
 shared-slice-read-word : tie.Need-shared-slice-read-word
 shared-slice-read-word c = search needs
@@ -28,10 +27,10 @@ add-if3 : tie.Need-add-if3
 add-if3 c = search needs
 
 returns-3 : tie.Need-returns-3
-returns-3 c = sym (form6-fails _ (λ f. omega arith))
+returns-3 c = tells-not-6 (search needs) (λ f. omega arith)
 
 returns-4 : tie.Need-returns-4
-returns-4 c = sym (facts-form6 _ (omega arith))
+returns-4 c = tells-6 (search needs) (omega arith)
 
 pub ipv6-form-spec : {M : Type 1} → statement M
 ipv6-form-spec =

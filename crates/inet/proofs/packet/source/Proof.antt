@@ -1,7 +1,6 @@
--- By version; a packet of good form that is not IPv4 has 40 bytes. Assumes nothing.
+-- By version; what is not IPv4 has 40 bytes. Assumes nothing.
 use mathlib.Core.Path.{sym, _∙_}
 use native.Mathlib.Omega.{arith}
-use Rattle.inet.proofs.FormFacts.{form6-long}
 use Rattle.inet.proofs.HeaderLaws.{sourceOf-4, sourceOf-not-4}
 use borrow.Author.Needs.{needs}
 use Rattle.inet.proofs.packet.source.Statement.{statement}
@@ -17,7 +16,7 @@ returns : tie.Need-returns
 returns c = c .address4 .ensures ∙ sym (sourceOf-4 _ (omega arith))
 
 address6-requires : tie.Need-address6-requires
-address6-requires c κs = omega (arith, form6-long (c .before .before .before .pre) (λ e. omega arith))
+address6-requires c κs = omega (arith, c .before .before .before .pre .six (λ e. omega arith))
 
 returns-2 : tie.Need-returns-2
 returns-2 c = c .address6 .ensures ∙ sym (sourceOf-not-4 _ (λ e. omega arith))

@@ -2,6 +2,7 @@
 use mathlib.Core.Path.{sym, _∙_}
 use borrow.Author.Tests.{not-true, not-false}
 use Rattle.inet.proofs.FormFacts.{form-facts}
+use Rattle.inet.proofs.AddressLaws.{form-addressed}
 use Rattle.tunnel.proofs.SendingSteps.{writes-stop}
 use Rattle.tunnel.proofs.ReceivingSteps as Steps
 use borrow.Author.Needs.{needs}
@@ -16,7 +17,7 @@ returns c = record { writes = writes-stop (Steps.packet-bad _ _ (c .before .form
 
 granted-requires : tie.Need-granted-requires
 granted-requires c κs =
-    (search needs, (c .before .before .before .before .before .pre .1 .sound, form-facts _ (sym (c .before .form .ensures) ∙ not-false _ (c .if1 .left))))
+    (search needs, (c .before .before .before .before .before .pre .1 .sound, form-addressed _ (form-facts _ (sym (c .before .form .ensures) ∙ not-false _ (c .if1 .left)))))
 
 returns-2 : tie.Need-returns-2
 returns-2 c =

@@ -12,6 +12,7 @@ use Rattle.answer.proofs.Tables.{stops, passes}
 use Rattle.lists.proofs.Calls.{called-true, called-false}
 use Rattle.inet.specs.Packet.{form, hopsOf}
 use Rattle.inet.proofs.FormFacts.{form-facts}
+use Rattle.inet.proofs.AddressLaws.{form-addressed}
 use Rattle.state.specs.State.{State, soundState, stateIn}
 use Rattle.template.specs.Datagrams.{maxPacket}
 use Rattle.tunnel.specs.Tunnel.{sendRoom, sendTests, sendVerdict}
@@ -106,7 +107,7 @@ returns-5 c =
     sym (past4 e ∙ stops _ _ _ (lt-ltb (hopsOf (P (S4 e))) 2 (omega (arith, c .before .hops .ensures))))
 
 granted-requires : tie.Need-granted-requires
-granted-requires c κs = (search needs, (sound (c .before .before .before .before .before), form-facts _ (formed (c .before .before))))
+granted-requires c κs = (search needs, (sound (c .before .before .before .before .before), form-addressed _ (form-facts _ (formed (c .before .before)))))
 
 returns-6 : tie.Need-returns-6
 unfolding sendVerdict sendTests

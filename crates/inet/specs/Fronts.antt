@@ -1,0 +1,31 @@
+-- A packet whose front alone is looked at: what the inner functions ask of the front, and what it tells.
+use Prim.Native.Nat.{ℕ, _+_, _≤_}
+use mathlib.Core.Bool.{Bool}
+use mathlib.Core.List.{List, _++_}
+use mathlib.Core.Path.{_≡_}
+use lib.ListN.{length}
+use Rattle.inet.specs.Sum.{words, fold}
+use Rattle.inet.specs.Packet.{versionOf}
+
+-- the most bytes of a header: 15 words of 4
+abbrev pub maxHeader : ℕ
+maxHeader = 60
+
+-- b is what a test says of every packet of n bytes with this front
+pub record Tells (test : List ℕ → Bool) (front : List ℕ) (n : ℕ) (b : Bool) : Type 0 where
+  pub told : (tail : List ℕ) → length front + length tail ≡ n → b ≡ test (front ++ tail)
+
+-- a packet, or the front of one, with both addresses
+pub record Addressed (p : List ℕ) : Type 0 where
+  pub long : 20 ≤ length p
+  pub six : (versionOf p ≡ 4 → ⊥) → 40 ≤ length p
+
+-- a packet in two parts, of which a sum is made from start on: start lies in the first, and so does the protocol
+pub record Summable (start : ℕ) (front tail : List ℕ) : Type 0 where
+  pub short : length front + length tail ≤ 65535
+  pub inside : start ≤ length front
+  pub headed : 10 ≤ length front
+
+-- r is what the bytes of tail add to the sum of any n bytes before them
+pub record CountsBehind (n : ℕ) (tail : List ℕ) (r : ℕ) : Type 0 where
+  pub added : (s : List ℕ) → length s ≡ n → fold (words s + r) ≡ fold (words (s ++ tail))
