@@ -85,3 +85,11 @@ module _ (s : List ℕ) (r : RouteRange) (n : ℕ) where
 
   pub sound : readRange s ≡ Good r n → soundRange r ≡ true
   sound h = kept (taken h)
+
+  by-version : Taken s r n → n ≡ pick (eqb (r .version) 4) 10 34
+  by-version (ipv4 v e w) = rw (← e) (w .taken)
+  by-version (ipv6 v e w) = rw (← e) (w .taken)
+
+  -- its size is told by its version
+  pub size-version : readRange s ≡ Good r n → n ≡ pick (eqb (r .version) 4) 10 34
+  size-version h = by-version (taken h)

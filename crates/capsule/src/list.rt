@@ -13,7 +13,9 @@ use lists::RouteList;
 ghost use mathlib.Core.Path.{_≡_};
 ghost use mathlib.Core.Bool.{true, false, _&&_};
 ghost use Prim.Native.Nat.{_≤_};
+ghost use lib.Dec.{eqb};
 ghost use lib.ListN.{length, replicate};
+ghost use Rattle.answer.specs.Choice.{pick};
 ghost use Rattle.lists.specs.Words.{maxAddresses, maxRanges, addressWords, routeWords};
 ghost use Rattle.capsule.specs.Elements.{fault, elementsIn};
 ghost use Rattle.capsule.specs.Entries.{entryFormat, rangeFormat};
@@ -245,7 +247,7 @@ fn read_ranges(value: &[u8], words: &mut [u64; ROUTE_WORDS]) -> Verdict
     while at < value.len() {
         let r = crate::element::read_range(&value[at..]);
         match r {
-            RangeRead::Good { range, size } => {
+            RangeRead::Good { range, size: _ } => {
                 if !lists::in_order(last, range) {
                     return Verdict::Stop(Refusal::RangesOutOfOrder);
                 }
@@ -254,7 +256,8 @@ fn read_ranges(value: &[u8], words: &mut [u64; ROUTE_WORDS]) -> Verdict
                 }
                 last = range;
                 count += 1;
-                at += size;
+                // the size that was read would go through memory, and the next turn wait for it
+                at += range_size(range.version);
             }
             RangeRead::Bad => {
                 return Verdict::Stop(Refusal::BadRange);
@@ -266,6 +269,13 @@ fn read_ranges(value: &[u8], words: &mut [u64; ROUTE_WORDS]) -> Verdict
     }
     words[0] = count as u64;
     Verdict::Go
+}
+
+// How many bytes a range of this version takes.
+fn range_size(version: u8) -> usize
+    ensures { λ r. ⌜ r ≡ pick (eqb version 4) 10 34 ⌝ }
+{
+    if version == 4 { 10 } else { 34 }
 }
 
 fn no_ranges(why: Refusal) -> RangesRead

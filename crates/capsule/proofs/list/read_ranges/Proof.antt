@@ -38,6 +38,10 @@ turned c =
     (λ w. rw (w .1) (T.next-full i (omega arith) _ _ (got c) (omega arith) o))
     (c .if2 .came)
 
+-- the size that the version tells is the one that was read
+sized : (c : tie.After-range-size Inv-loop μ-loop) → c .before .before .before .before .before .r .given .0 .1 .0 ≡ c .range-size .result
+sized c = Range.size-version _ _ _ (got (c .before)) ∙ sym (c .range-size .ensures)
+
 before-all-requires : tie.Need-before-all-requires Inv-loop μ-loop
 before-all-requires c κs = search needs
 
@@ -71,14 +75,17 @@ put-range-requires c κs = search needs
 add-count : tie.Need-add-count Inv-loop μ-loop
 add-count c = omega (arith, turned c .reading .behind, turned c .reading .within, turned c .counted)
 
+range-size-requires : tie.Need-range-size-requires Inv-loop μ-loop
+range-size-requires c κs = search needs
+
 add-at : tie.Need-add-at Inv-loop μ-loop
-add-at c = omega (arith, turned c .reading .within)
+add-at c = omega (arith, turned (c .before) .reading .within, sized c)
 
 loop-less : tie.Need-loop-less Inv-loop μ-loop
-loop-less c = omega (arith, Range.size _ _ _ (got c) .0, turned c .reading .within)
+loop-less c = omega (arith, Range.size _ _ _ (got (c .before)) .0, turned (c .before) .reading .within, sized c)
 
 loop-again : tie.Need-loop-again Inv-loop μ-loop
-loop-again c = turned c
+loop-again c = rw (← sized c) (turned (c .before))
 
 enum-told : tie.Need-enum-told Inv-loop μ-loop
 enum-told c = search needs
@@ -112,6 +119,7 @@ read-ranges-spec =
     returns
     put-range-requires
     add-count
+    range-size-requires
     add-at
     loop-less
     loop-again
