@@ -12,9 +12,9 @@ use whapirohi_reference::packet::MAX_PACKET;
 use whapirohi_reference::{receive, send};
 use whapirohi_tunnel::{RECEIVE_ROOM, SEND_ROOM};
 
-/// IPv4 all of them.
 struct Row {
     name: &'static str,
+    family: Family,
     sending: bool,
     length: usize,
     addresses: usize,
@@ -22,13 +22,31 @@ struct Row {
     templates: usize,
 }
 
-const FIRST: Row = Row { name: "send-64-in-full", sending: true, length: 64, addresses: 1, ranges: 1, templates: 0 };
+const FIRST: Row = Row {
+    name: "send-64-in-full",
+    family: Family::V4,
+    sending: true,
+    length: 64,
+    addresses: 1,
+    ranges: 1,
+    templates: 0,
+};
 
-const ROWS: [Row; 4] = [
+const ROWS: [Row; 7] = [
     FIRST,
     Row { name: "receive-1500-in-full", sending: false, length: MAX_PACKET, ..FIRST },
     Row { name: "send-64-by-a-template", templates: 1, ..FIRST },
     Row { name: "send-64-full-lists", addresses: MAX_ADDRESSES, ranges: MAX_RANGES, ..FIRST },
+    Row { name: "send-64-by-a-template-ipv6", family: Family::V6, templates: 1, ..FIRST },
+    Row { name: "receive-64-by-a-template-ipv6", family: Family::V6, sending: false, templates: 1, ..FIRST },
+    Row {
+        name: "receive-576-by-a-template-ipv6",
+        family: Family::V6,
+        sending: false,
+        length: 576,
+        templates: 1,
+        ..FIRST
+    },
 ];
 
 fn main() -> ExitCode {
@@ -54,11 +72,11 @@ fn usage() -> ExitCode {
 }
 
 fn by_library(row: &Row, calls: u32) {
-    let &Row { sending, length, addresses, ranges, templates, .. } = row;
-    let plan = plan(Family::V4, templates, Miss::EarlierPorts);
-    let state = state_of(&grants(Family::V4, addresses, ranges), &plan);
+    let &Row { family, sending, length, addresses, ranges, templates, .. } = row;
+    let plan = plan(family, templates, Miss::EarlierPorts);
+    let state = state_of(&grants(family, addresses, ranges), &plan);
     let there = mirrored(&state);
-    let packet = packet(Family::V4, length);
+    let packet = packet(family, length);
     let (mut datagram, mut out) = (vec![0; SEND_ROOM], vec![0; RECEIVE_ROOM]);
     let sent = Library.send(&state, &packet, &mut datagram);
     assert_eq!(sent.number, 0);
@@ -73,11 +91,11 @@ fn by_library(row: &Row, calls: u32) {
 }
 
 fn by_reference(row: &Row, calls: u32) {
-    let &Row { sending, length, addresses, ranges, templates, .. } = row;
-    let plan = plan(Family::V4, templates, Miss::EarlierPorts);
-    let here = grants(Family::V4, addresses, ranges);
+    let &Row { family, sending, length, addresses, ranges, templates, .. } = row;
+    let plan = plan(family, templates, Miss::EarlierPorts);
+    let here = grants(family, addresses, ranges);
     let there = here.mirrored();
-    let packet = packet(Family::V4, length);
+    let packet = packet(family, length);
     let (mut datagram, mut out) = (vec![0; SEND_ROOM], vec![0; RECEIVE_ROOM]);
     let sent = send(&here, &plan, &packet, &mut datagram).expect("a packet that passes");
     for _ in 0..calls {
