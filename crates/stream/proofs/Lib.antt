@@ -14,6 +14,7 @@ pub mod CaseLaws
 pub mod CodeLaws
 pub mod FreshLaws
 pub mod StayLaws
+pub mod DatagramLaws
 pub mod StoreCases
 pub mod FeedCases
 pub mod HandCases

@@ -52,7 +52,7 @@ module _ {w held : List ℕ} (rd : Collecting w held) where
       open-kind : kind ≤ 3
       open-kind = ⊎-elim (λ q. absurd (true≢false (sym (Case.open-other kept hr e q ∙ kept-open)))) (λ q. q) (order 3 kind)
 
-      open-short : len ≤ maxValue
+      pub open-short : len ≤ maxValue
       open-short =
           ⊎-elim (λ q. absurd (true≢false (sym (Case.open-long kept hr e open-kind q ∙ kept-open)))) (λ q. q) (order maxValue len)
 

@@ -48,6 +48,11 @@ abbrev pub staysOpen : Head → ℕ → ℕ → Bool
 staysOpen (Head.Known kind start size) count given = ltb given (start + size - count)
 staysOpen Head.Cut count given = false
 
+-- the head of a DATAGRAM
+abbrev pub isDatagram : Head → Bool
+isDatagram (Head.Known kind start size) = eqb kind 0
+isDatagram Head.Cut = false
+
 -- ---- answers
 abbrev pub refusing : Refusal → Piece
 refusing r = record { call = Stopped r; taken = 0 }
@@ -99,6 +104,10 @@ pub record Goes (f : Fed) (w held before l : List ℕ) (r : Piece) (later holds 
   pub output : after ≡ onOut datagramBytes [] (f .said) ++ drop (length (onOut datagramBytes [] (f .said))) before
   pub requested : list ≡ onOut (asked l) l (f .said)
 
+-- a DATAGRAM is handed out: the kept bytes' memory, and any list for a request, stay as they are
+pub record HandsDatagram (f : Fed) (w held before : List ℕ) (r : Piece) (later after : List ℕ) : Type 0 where
+  pub goes : (l : List ℕ) → Goes f w held before l r later held after l
+
 -- all bytes t are kept behind the bytes s
 abbrev pub keepsAll : List ℕ → List ℕ → Fed
 keepsAll s t = record { said = waiting (s ++ t); taken = length t; store = record { kept = s ++ t; skip = 0; stopped = Go } }
@@ -122,6 +131,13 @@ pub record Collecting (w held : List ℕ) : Type 0 where
   pub sound : soundStore (storeIn w held) ≡ true
   pub within : getD w storeAt 0 < keptSize
   pub room : length held ≡ keptSize
+
+-- and the bytes t given end it, a DATAGRAM of this head
+pub record EndsDatagram (w held t : List ℕ) (head : Head) : Type 0 where
+  pub store : Collecting w held
+  pub read : HeadRead (take (getD w storeAt 0) held) head
+  pub datagram : isDatagram head ≡ true
+  pub ends : staysOpen head (getD w storeAt 0) (length t) ≡ false
 
 -- the bytes are one capsule that holds a list
 pub record OneList (s : List ℕ) : Type 0 where

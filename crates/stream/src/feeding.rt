@@ -25,7 +25,7 @@ ghost use Rattle.state.specs.State.{storeAt, stateWords};
 ghost use Rattle.exchange.specs.Reading.{TakesCapsule};
 ghost use Rattle.stream.specs.Store.{onSkip};
 ghost use Rattle.stream.specs.Feeding.{keptSize, Feeds, fed};
-ghost use Rattle.stream.specs.Inner.{refusing, Refuses, HandsOut, Settles, Moves, Keeps, Goes, keepsAll, isEmpty, EndsBehind, staysOpen, Live, Fresh, Collecting};
+ghost use Rattle.stream.specs.Inner.{refusing, Refuses, HandsOut, Settles, Moves, Keeps, Goes, keepsAll, isEmpty, EndsBehind, staysOpen, isDatagram, HandsDatagram, Live, Fresh, Collecting, EndsDatagram};
 
 // What a call says: 0 with a capsule of a kind, and how many bytes of its value stand in the output; 0 between capsules; 1, in a capsule; or any
 // other number.
@@ -78,6 +78,10 @@ pub fn feed(
             if stays_open(head, state[STORE_AT], bytes.len()) {
                 return keep(state, kept, bytes);
             }
+            // and so does the last one of a DATAGRAM
+            if is_datagram(head) {
+                return end_datagram(state, kept, head, bytes, out);
+            }
             feed_open(state, kept, head, bytes, out, requested)
         }
         Verdict::Stop(why) => stopped(why),
@@ -96,6 +100,47 @@ fn stays_open(head: Head, count: u64, given: usize) -> bool
             length,
         } => (given as u64) < (start as u64 + length) - count,
         Head::Cut => false,
+    }
+}
+
+// Whether the head is known, and that of a DATAGRAM.
+fn is_datagram(head: Head) -> bool
+    ensures { λ r. ⌜ r ≡ isDatagram head ⌝ }
+{
+    match head {
+        Head::Known {
+            kind,
+            start: _,
+            length: _,
+        } => kind == 0,
+        Head::Cut => false,
+    }
+}
+
+// The last bytes of a DATAGRAM of this head, which is not cut: its value is handed out.
+fn end_datagram(
+    state: &mut [u64; STATE_WORDS],
+    kept: &[u8],
+    head: Head,
+    bytes: &[u8],
+    out: &mut [u8],
+) -> Piece
+    requires { ⌜ (EndsDatagram (now state) (now kept) (now bytes) head) × (maxValue ≤ length (now out)) ⌝ }
+    ensures { λ r. ⌜ HandsDatagram (fed (now (state .entry)) (now (kept .entry)) (now (bytes .entry))) (now (state .entry)) (now (kept .entry))
+        (now (out .entry)) r (now (state .exit)) (now (out .exit)) ⌝ }
+{
+    let count = state[STORE_AT] as usize;
+    match head {
+        Head::Known {
+            kind: _,
+            start,
+            length,
+        } => {
+            let need = start + length as usize - count;
+            let size = hand_value(&kept[..count], &bytes[..need], start, out);
+            hand_out(state, 0, size, need)
+        }
+        Head::Cut => stopped(Refusal::BrokenState),
     }
 }
 

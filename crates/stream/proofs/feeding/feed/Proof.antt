@@ -1,5 +1,5 @@
--- The table of tests, an empty store, then a refusal that is remembered, a capsule that is skipped, one that stays open, or one whose bytes are
--- collected. Assumes nothing.
+-- The table of tests, an empty store, then a refusal that is remembered, a capsule that is skipped, one that stays open, a DATAGRAM that ends, or a
+-- capsule whose bytes are collected. Assumes nothing.
 use native.Mathlib.Omega.{arith}
 use mathlib.Core.Path.{refl, sym, _∙_}
 use Rattle.lists.proofs.Calls.{called-true, called-false}
@@ -80,8 +80,20 @@ keep-requires c κs = let s = c .before .before .before .before .before .before 
 returns-6 : tie.Need-returns-6
 returns-6 c = Feed.feeds-goes _ _ _ _ _ (verdict-go _ _ _ (c .before .before .before .before .before .before .before .before .before .before .before .before .before .before .before .before .before .before .before .before .before .before .before .before .before .before .before .before .before .before .before .if1 .left) (called-true (c .before .before .before .before .before .before .before .before .before .before .before .before .before .before .before .before .before .before .before .before .before .before .before .before .before .before .before .before .state-sound .ensures) (c .before .before .before .before .before .before .before .before .before .before .before .before .before .before .before .before .before .before .before .before .before .before .before .before .before .before .before .if2 .left)) (called-true (c .before .before .before .before .before .before .before .before .before .before .before .before .before .store-sound .ensures .answer) (c .before .before .before .before .before .before .before .before .before .before .before .before .if4 .left))) (goes-stays (Feed.ready _ _ (search needs) (search needs) (called-true (c .before .before .before .before .before .before .before .before .before .before .before .before .before .store-sound .ensures .answer) (c .before .before .before .before .before .before .before .before .before .before .before .before .if4 .left)) (c .before .before .before .before .before .before .before .before .before .before .before .before .before .store-sound .ensures .within (called-true refl (c .before .before .before .before .before .before .before .before .before .before .before .before .if4 .left))) (sym (c .before .before .before .before .before .before .before .before .before .before .remembered .ensures) ∙ c .before .before .before .before .before .before .before .before .enum-told .given .1) (c .before .before .before .before .before .before .if5 .left)) (c .before .before .before .before .before .before .before .before .before .before .before .before .before .before .before .before .before .before .kept-head .ensures (c .before .before .before .before .before .before .before .before .before .before .before .before .before .store-sound .ensures .within (called-true refl (c .before .before .before .before .before .before .before .before .before .before .before .before .if4 .left)))) (c .before .before .before .before .before .before .before .before .before .before .before .before .before .before .before .before .before .before .before .before .before .before .before .before .before .before .before .before .before .before .before .before .before .before .args .bytes .now) (sym (c .before .before .before .before .stays-open .ensures) ∙ c .before .before .before .if6 .taken) (c .keep .ensures))
 
+is-datagram-requires : tie.Need-is-datagram-requires
+is-datagram-requires c κs = search needs
+
+end-datagram-requires : tie.Need-end-datagram-requires
+end-datagram-requires c κs = (record { store = Feed.ready _ _ (search needs) (search needs) (called-true (c .before .before .before .before .before .before .before .before .before .before .before .before .before .before .before .before .store-sound .ensures .answer) (c .before .before .before .before .before .before .before .before .before .before .before .before .before .before .before .if4 .left)) (c .before .before .before .before .before .before .before .before .before .before .before .before .before .before .before .before .store-sound .ensures .within (called-true refl (c .before .before .before .before .before .before .before .before .before .before .before .before .before .before .before .if4 .left))) (sym (c .before .before .before .before .before .before .before .before .before .before .before .before .before .remembered .ensures) ∙ c .before .before .before .before .before .before .before .before .before .before .before .enum-told .given .1) (c .before .before .before .before .before .before .before .before .before .if5 .left); read = c .before .before .before .before .before .before .before .before .before .before .before .before .before .before .before .before .before .before .before .before .before .kept-head .ensures (c .before .before .before .before .before .before .before .before .before .before .before .before .before .before .before .before .store-sound .ensures .within (called-true refl (c .before .before .before .before .before .before .before .before .before .before .before .before .before .before .before .if4 .left))); datagram = sym (c .before .before .before .before .before .is-datagram .ensures) ∙ c .before .before .before .before .if7 .taken; ends = sym (c .before .before .before .before .before .before .before .stays-open .ensures) ∙ c .before .before .before .before .before .before .if6 .left }, omega (arith, c .before .before .before .before .before .before .before .before .before .before .before .before .before .before .before .before .before .before .before .before .before .before .before .before .before .before .before .before .before .before .before .before .before .before .if1 .left))
+
+same-length-2 : tie.Need-same-length-2
+same-length-2 c = search needs
+
+returns-7 : tie.Need-returns-7
+returns-7 c = Feed.feeds-goes _ _ _ _ _ (verdict-go _ _ _ (c .before .before .before .before .before .before .before .before .before .before .before .before .before .before .before .before .before .before .before .before .before .before .before .before .before .before .before .before .before .before .before .before .before .before .before .before .before .if1 .left) (called-true (c .before .before .before .before .before .before .before .before .before .before .before .before .before .before .before .before .before .before .before .before .before .before .before .before .before .before .before .before .before .before .before .before .before .before .state-sound .ensures) (c .before .before .before .before .before .before .before .before .before .before .before .before .before .before .before .before .before .before .before .before .before .before .before .before .before .before .before .before .before .before .before .before .before .if2 .left)) (called-true (c .before .before .before .before .before .before .before .before .before .before .before .before .before .before .before .before .before .before .before .store-sound .ensures .answer) (c .before .before .before .before .before .before .before .before .before .before .before .before .before .before .before .before .before .before .if4 .left))) (c .before .before .end-datagram .ensures .goes _)
+
 feed-open-requires : tie.Need-feed-open-requires
-feed-open-requires c κs = (Feed.ready _ _ (search needs) (search needs) (called-true (c .before .before .before .before .before .before .before .before .before .before .before .before .before .before .store-sound .ensures .answer) (c .before .before .before .before .before .before .before .before .before .before .before .before .before .if4 .left)) (c .before .before .before .before .before .before .before .before .before .before .before .before .before .before .store-sound .ensures .within (called-true refl (c .before .before .before .before .before .before .before .before .before .before .before .before .before .if4 .left))) (sym (c .before .before .before .before .before .before .before .before .before .before .before .remembered .ensures) ∙ c .before .before .before .before .before .before .before .before .before .enum-told .given .1) (c .before .before .before .before .before .before .before .if5 .left), omega (arith, c .before .before .before .before .before .before .before .before .before .before .before .before .before .before .before .before .before .before .before .before .before .before .before .before .before .before .before .before .before .before .before .before .if1 .left), c .before .before .before .before .before .before .before .before .before .before .before .before .before .before .before .before .before .before .before .kept-head .ensures (c .before .before .before .before .before .before .before .before .before .before .before .before .before .before .store-sound .ensures .within (called-true refl (c .before .before .before .before .before .before .before .before .before .before .before .before .before .if4 .left))))
+feed-open-requires c κs = (Feed.ready _ _ (search needs) (search needs) (called-true (c .before .before .before .before .before .before .before .before .before .before .before .before .before .before .before .before .store-sound .ensures .answer) (c .before .before .before .before .before .before .before .before .before .before .before .before .before .before .before .if4 .left)) (c .before .before .before .before .before .before .before .before .before .before .before .before .before .before .before .before .store-sound .ensures .within (called-true refl (c .before .before .before .before .before .before .before .before .before .before .before .before .before .before .before .if4 .left))) (sym (c .before .before .before .before .before .before .before .before .before .before .before .before .before .remembered .ensures) ∙ c .before .before .before .before .before .before .before .before .before .before .before .enum-told .given .1) (c .before .before .before .before .before .before .before .before .before .if5 .left), omega (arith, c .before .before .before .before .before .before .before .before .before .before .before .before .before .before .before .before .before .before .before .before .before .before .before .before .before .before .before .before .before .before .before .before .before .before .if1 .left), c .before .before .before .before .before .before .before .before .before .before .before .before .before .before .before .before .before .before .before .before .before .kept-head .ensures (c .before .before .before .before .before .before .before .before .before .before .before .before .before .before .before .before .store-sound .ensures .within (called-true refl (c .before .before .before .before .before .before .before .before .before .before .before .before .before .before .before .if4 .left))))
 
 enum-known-verdict : tie.Need-enum-known-verdict
 enum-known-verdict c = search needs
@@ -89,14 +101,14 @@ enum-known-verdict c = search needs
 stopped-requires-4 : tie.Need-stopped-requires-4
 stopped-requires-4 c κs = search needs
 
-same-length-2 : tie.Need-same-length-2
-same-length-2 c = search needs
-
-returns-7 : tie.Need-returns-7
-returns-7 c = Feed.feeds-goes _ _ _ _ _ (verdict-go _ _ _ (c .before .before .before .before .before .before .before .before .before .before .before .before .before .before .before .before .before .before .before .before .before .before .before .before .before .before .before .before .before .before .before .before .before .before .before .if1 .left) (called-true (c .before .before .before .before .before .before .before .before .before .before .before .before .before .before .before .before .before .before .before .before .before .before .before .before .before .before .before .before .before .before .before .before .state-sound .ensures) (c .before .before .before .before .before .before .before .before .before .before .before .before .before .before .before .before .before .before .before .before .before .before .before .before .before .before .before .before .before .before .before .if2 .left)) (called-true (c .before .before .before .before .before .before .before .before .before .before .before .before .before .before .before .before .before .store-sound .ensures .answer) (c .before .before .before .before .before .before .before .before .before .before .before .before .before .before .before .before .if4 .left))) (c .before .before .feed-open .ensures)
+same-length-3 : tie.Need-same-length-3
+same-length-3 c = search needs
 
 returns-8 : tie.Need-returns-8
-returns-8 c = let s = called-true (c .before .before .before .before .before .before .before .store-sound .ensures .answer) (c .before .before .before .before .before .before .if4 .left) in let p = c .before .before .before .before .before .before .before .store-sound .ensures .within (called-true refl (c .before .before .before .before .before .before .if4 .left)) in Feed.feeds-repeat _ _ _ _ _ (verdict-go _ _ _ (c .before .before .before .before .before .before .before .before .before .before .before .before .before .before .before .before .before .before .before .before .before .before .before .before .before .if1 .left) (called-true (c .before .before .before .before .before .before .before .before .before .before .before .before .before .before .before .before .before .before .before .before .before .before .state-sound .ensures) (c .before .before .before .before .before .before .before .before .before .before .before .before .before .before .before .before .before .before .before .before .before .if2 .left)) s) (search needs) s (omega (arith, p)) (sym (c .before .before .before .before .remembered .ensures) ∙ c .before .before .verdict .given .1) (c .stopped4 .ensures)
+returns-8 c = Feed.feeds-goes _ _ _ _ _ (verdict-go _ _ _ (c .before .before .before .before .before .before .before .before .before .before .before .before .before .before .before .before .before .before .before .before .before .before .before .before .before .before .before .before .before .before .before .before .before .before .before .before .before .if1 .left) (called-true (c .before .before .before .before .before .before .before .before .before .before .before .before .before .before .before .before .before .before .before .before .before .before .before .before .before .before .before .before .before .before .before .before .before .before .state-sound .ensures) (c .before .before .before .before .before .before .before .before .before .before .before .before .before .before .before .before .before .before .before .before .before .before .before .before .before .before .before .before .before .before .before .before .before .if2 .left)) (called-true (c .before .before .before .before .before .before .before .before .before .before .before .before .before .before .before .before .before .before .before .store-sound .ensures .answer) (c .before .before .before .before .before .before .before .before .before .before .before .before .before .before .before .before .before .before .if4 .left))) (c .before .before .feed-open .ensures)
+
+returns-9 : tie.Need-returns-9
+returns-9 c = let s = called-true (c .before .before .before .before .before .before .before .store-sound .ensures .answer) (c .before .before .before .before .before .before .if4 .left) in let p = c .before .before .before .before .before .before .before .store-sound .ensures .within (called-true refl (c .before .before .before .before .before .before .if4 .left)) in Feed.feeds-repeat _ _ _ _ _ (verdict-go _ _ _ (c .before .before .before .before .before .before .before .before .before .before .before .before .before .before .before .before .before .before .before .before .before .before .before .before .before .if1 .left) (called-true (c .before .before .before .before .before .before .before .before .before .before .before .before .before .before .before .before .before .before .before .before .before .before .state-sound .ensures) (c .before .before .before .before .before .before .before .before .before .before .before .before .before .before .before .before .before .before .before .before .before .if2 .left)) s) (search needs) s (omega (arith, p)) (sym (c .before .before .before .before .remembered .ensures) ∙ c .before .before .verdict .given .1) (c .stopped4 .ensures)
 
 pub feed-spec : {M : Type 1} → statement M
 feed-spec =
@@ -125,9 +137,13 @@ feed-spec =
     stays-open-requires
     keep-requires
     returns-6
+    is-datagram-requires
+    end-datagram-requires
+    same-length-2
+    returns-7
     feed-open-requires
     enum-known-verdict
     stopped-requires-4
-    same-length-2
-    returns-7
-    returns-8)
+    same-length-3
+    returns-8
+    returns-9)
