@@ -1,9 +1,9 @@
 // Numbers as bytes and as words: the big-endian value of up to 8 bytes, the bytes of a number, numbers of 128 bits in two words of 64,
-// and bytes and words copied.
+// the smaller of two lengths, and bytes and words copied.
 // The inner functions of the codecs above; each says what it requires, and no entry point of the box is here.
 ghost use mathlib.Core.Path.{_≡_};
 ghost use mathlib.Core.List.{_++_};
-ghost use Prim.Native.Nat.{_+_, _-_, _*_, _<_, _≤_, _^_};
+ghost use Prim.Native.Nat.{_+_, _-_, _*_, _<_, _≤_, _^_, min};
 ghost use lib.Dec.{leb, ltb};
 ghost use lib.ListN.{length, take, drop};
 ghost use Rattle.octets.specs.Big.{bigFrom, bigAt, digits};
@@ -93,6 +93,13 @@ pub fn low_zero_wide(k: u64, hi: u64, lo: u64) -> bool
         return low_zero(k - 64, hi);
     }
     false
+}
+
+// The smaller of two lengths.
+pub fn least(a: usize, b: usize) -> usize
+    ensures { λ r. ⌜ r ≡ min a b ⌝ }
+{
+    if a < b { a } else { b }
 }
 
 // The bytes of a block.

@@ -12,10 +12,11 @@ use capsule::HEAD_SIZE;
 use capsule::Head;
 use capsule::MAX_VALUE;
 use lists::ADDRESS_WORDS;
+use octets::least;
 use state::STATE_WORDS;
 use state::STORE_AT;
 ghost use mathlib.Core.Path.{_≡_};
-ghost use Prim.Native.Nat.{_+_, _≤_, min};
+ghost use Prim.Native.Nat.{_+_, _≤_};
 ghost use mathlib.Core.List.{_++_};
 ghost use lib.ListN.{length, getD, take, drop};
 ghost use Rattle.output.specs.Places.{Put};
@@ -287,15 +288,6 @@ fn head_across(kept: &[u8], bytes: &[u8]) -> Head
     let mut front = [0u8; HEAD_SIZE];
     let n = gather(kept, &bytes[..more], &mut front);
     capsule::read_head(&front[..n])
-}
-
-fn least(a: usize, b: usize) -> usize
-    ensures { λ r. ⌜ r ≡ min a b ⌝ }
-{
-    if a < b {
-        return a;
-    }
-    b
 }
 
 // The kept bytes, and then the given ones, at the front of a memory: how many they are.

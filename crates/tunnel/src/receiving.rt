@@ -1,12 +1,12 @@
 // From a datagram to a packet.
 use super::RECEIVE_ROOM;
 use super::granted::granted;
-use super::sending::least;
 use answer::Answer;
 use answer::Refusal;
 use answer::Verdict;
 use inet::packet::form;
 use inet::packet::front_form;
+use octets::least;
 use output::put_bytes;
 use output::put_many;
 use state::STATE_WORDS;

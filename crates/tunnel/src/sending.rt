@@ -7,6 +7,7 @@ use answer::Verdict;
 use inet::lower::lower_into;
 use inet::packet::form;
 use inet::packet::hops;
+use octets::least;
 use state::STATE_WORDS;
 use state::STORE_AT;
 use state::TABLE_AT;
@@ -21,7 +22,7 @@ use template::checksum::put_seed;
 use template::search::find;
 use varint::put_number;
 ghost use mathlib.Core.Path.{_≡_};
-ghost use Prim.Native.Nat.{_+_, _≤_, min};
+ghost use Prim.Native.Nat.{_+_, _≤_};
 ghost use lib.ListN.{length};
 ghost use Rattle.inet.specs.Packet.{Form, hopsOf, lowered};
 ghost use Rattle.output.specs.Places.{Put};
@@ -104,15 +105,6 @@ fn put_searched(table: &[u64], packet: &[u8], out: &mut [u8]) -> usize
             put_short(&table[from..end], first, packet, &mut front[..n], out)
         }
     }
-}
-
-pub(crate) fn least(a: usize, b: usize) -> usize
-    ensures { λ r. ⌜ r ≡ min a b ⌝ }
-{
-    if a < b {
-        return a;
-    }
-    b
 }
 
 // The full form of the lowered packet, which is lowered where it goes.
