@@ -32,11 +32,13 @@ const FIRST: Row = Row {
     templates: 0,
 };
 
-const ROWS: [Row; 7] = [
+const ROWS: [Row; 9] = [
     FIRST,
     Row { name: "receive-1500-in-full", sending: false, length: MAX_PACKET, ..FIRST },
     Row { name: "send-64-by-a-template", templates: 1, ..FIRST },
     Row { name: "send-64-full-lists", addresses: MAX_ADDRESSES, ranges: MAX_RANGES, ..FIRST },
+    Row { name: "send-64-in-full-ipv6", family: Family::V6, ..FIRST },
+    Row { name: "receive-1500-in-full-ipv6", family: Family::V6, sending: false, length: MAX_PACKET, ..FIRST },
     Row { name: "send-64-by-a-template-ipv6", family: Family::V6, templates: 1, ..FIRST },
     Row { name: "receive-64-by-a-template-ipv6", family: Family::V6, sending: false, templates: 1, ..FIRST },
     Row {
