@@ -60,7 +60,7 @@ fn sum_pairs(s: &[u8]) -> u64
 }
 
 // The sum of the words of s, which is no longer than an IPv4 packet: of blocks so short that the bytes of one place add up to less than 65536.
-pub fn sum_words(s: &[u8]) -> u64
+pub(crate) fn sum_words(s: &[u8]) -> u64
     requires { ⌜ length (now s) ≤ 65535 ⌝ }
     ensures { λ r. ⌜ (r ≡ words (now (s .entry))) × (r < 4294967296) ⌝ }
 {
@@ -96,7 +96,7 @@ fn sum_block(s: &[u8], quads: usize) -> u64
 }
 
 // A number that folds to what the words of s fold to: two words are one number of 32 bits, since 65536 is 1 more than 65535. For short s, of quads alone.
-pub fn sum_quads(s: &[u8]) -> u64
+pub(crate) fn sum_quads(s: &[u8]) -> u64
     requires { ⌜ (length (now s) ≤ 60) × (length (now s) % 4 ≡ 0) ⌝ }
     ensures { λ r. ⌜ (fold r ≡ fold (words (now (s .entry)))) × (r < 1099511627776) ⌝ }
 {
