@@ -79,10 +79,6 @@ words-put l i v e h = rw add-one (put-suc l i v e (omega arith))
 pub put-completes : (l : List ℕ) (i : ℕ) → i % 2 ≡ 0 → i + 1 < length l → 0 < words (put16 l i 0) → fold (words (put16 l i (65535 - fold (words (put16 l i 0))))) ≡ 65535
 put-completes l i e h z = ap fold (words-put l i _ e h) ∙ fold-completes (words (put16 l i 0)) z
 
--- what stood in the field, set back into it
-pub setField-back : (field x : ℕ) (p : List ℕ) → getD p (field + 1) 0 < 256 → setField field (fieldOf field p) (setField field x p) ≡ p
-setField-back field x p h = put-put p field x (fieldOf field p) ∙ put-same p field (fieldOf field p) (omega arith) (omega arith)
-
 pub fieldIs-facts : (field v : ℕ) (p : List ℕ) → fieldIs field v p ≡ true → (getD p field 0 ≡ v / 256) × (getD p (field + 1) 0 ≡ v % 256)
 unfolding fieldIs
 fieldIs-facts field v p e = let f = and-both _ _ e in (eqb-true _ _ (f .0), eqb-true _ _ (f .1))
@@ -111,12 +107,6 @@ fieldIs-fieldOf field v p h = go (eqb (fieldOf field p) v) refl
     go true e = let f : fieldOf field p ≡ v = eqb-true (fieldOf field p) v e in facts-fieldIs field v p (omega arith) (omega arith) ∙ sym e
     go false e = fieldIs-fails field v p (λ f. eqb-false (fieldOf field p) v e (omega arith)) ∙ sym e
 
--- the field of a list in which it was set
+-- a field that is set keeps the length
 pub setField-length : (field v : ℕ) (p : List ℕ) → length (setField field v p) ≡ length p
 setField-length field v p = put-length p field v
-
-pub setField-other : (field v : ℕ) (p : List ℕ) (j : ℕ) → j ≢ field → j ≢ field + 1 → getD (setField field v p) j 0 ≡ getD p j 0
-setField-other field v p j h k = put-other p field v j h k
-
-pub setField-setField : (field x v : ℕ) (p : List ℕ) → setField field v (setField field x p) ≡ setField field v p
-setField-setField field x v p = put-put p field x v

@@ -56,19 +56,6 @@ module _ (protocol s : ℕ) where
   unfolding sent
   sent-nonzero n = simp (ne-eqb s 0 n)
 
-  pub sent-fits : s < 65536 → sent protocol s < 65536
-  unfolding sent
-  sent-fits h = go (eqb s 0 && eqb protocol 17)
-    where
-      go : (b : Bool) → pick b 65535 s < 65536
-      go true = omega arith
-      go false = h
-
--- a checksum fits in 16 bits
-pub finish-fits : (start : ℕ) (q : List ℕ) → finish start q < 65536
-unfolding finish
-finish-fits start q = sent-fits (protocolByte q) (65535 - fold (words (drop start q))) (omega arith)
-
 -- ---- a packet in two parts
 
 -- what a tail counts: nothing, or its words, or behind an odd number of bytes 256 times as much
