@@ -75,7 +75,7 @@ elementsIn f asked limit s = settled asked limit (parse f (suc (length s)) [] s)
 
 -- ---- writing
 
--- the first fault of a list, element by element xs in reading
+-- the first fault of a list, element by element as in reading
 abbrev pub judged : {A : Type 0} → Format A → List A → List A → Verdict
 judged f earlier [] = Go
 judged f earlier (a ∷ xs) = stopIf (not (f .sound a)) (f .wrong) (f .follows earlier a then judged f (a ∷ earlier) xs)

@@ -158,7 +158,8 @@ fn ids_refused(value: &[u8], request: bool, count: usize) -> bool
     many_refused(value, count)
 }
 
-// Whether none of so many IDs is zero and each is larger than the one before it. They are compared as they are read, so that none is stored.
+// Whether none of so many IDs is zero and each is larger than the one before it: true says that they are not refused, false says nothing. They are compared as
+// they are read, so that none is stored.
 fn ids_ascend(value: &[u8], count: usize) -> bool
     requires { ⌜ length (now value) ≤ maxValue ⌝ }
     requires { ⌜ length (idsIn (now value)) ≡ count ⌝ }

@@ -10,7 +10,8 @@ ghost use Rattle.answer.specs.Choice.{pick};
 ghost use Rattle.inet.specs.Fronts.{Addressed};
 ghost use Rattle.state.specs.State.{stateWords, stateIn, soundState, sendingGranted, receivingGranted};
 
-// Whether a packet, or the one that this is the front of, may be sent, or else received. Sending is granted by the received side, or as a reply by the given one; receiving the other way round.
+// Whether a packet, or the one that this is the front of, may be sent, or else received. Sending is granted by the received side, or as a reply by the given
+// one; receiving the other way round.
 // The sides are picked by where they stand, so that there is one call of `passes`, and the compiler keeps all of it in one function.
 pub(crate) fn granted(state: &[u64], packet: &[u8], sending: bool) -> bool
     requires { ⌜ stateWords ≤ length (now state) ⌝ }
