@@ -1,4 +1,4 @@
--- The front of a packet that has all of its header: lowering, the form and both addresses look at nothing behind it. Assumes nothing.
+-- The front of a packet that has all of its header: lowering and the form look at nothing behind it. Assumes nothing.
 use mathlib.Core.Path.{_≡_, refl, sym, ap, _∙_}
 use mathlib.Core.Logic.{_⊎_, inl, inr}
 use mathlib.Core.Bool.{Bool, true, false}

@@ -1,7 +1,7 @@
 -- The bytes given end a DATAGRAM: the kept ones are the front of an open capsule, so its head is that of all bytes, within the limit, and its value
 -- is handed out. Assumes nothing.
 use Prim.Native.Nat.{ℕ, _+_, _-_, _≤_, _<_, _^_}
-use mathlib.Core.Bool.{true, false, true≢false}
+use mathlib.Core.Bool.{false, true≢false}
 use mathlib.Core.Path.{_≡_, sym, ap, _∙_}
 use mathlib.Core.List.{List, _++_}
 use mathlib.Core.Logic.{inr}
