@@ -1,12 +1,12 @@
 -- What the box promises, in the paper's words and order. Each is a statement about the very definitions that the contracts cite:
 -- `sendAnswer`, `sendOutput`, `receiveAnswer` and `receiveOutput` are what those of `tunnel::send` and `tunnel::receive` say of the state that the
 -- lent words mean (`stateIn`). "Room" is an output that is large enough and nothing handed in that breaks its own rules.
-use Prim.Native.Nat.{ℕ, _-_, _%_, _<_, _≤_}
+use Prim.Native.Nat.{ℕ, _+_, _-_, _%_, _<_, _≤_}
 use mathlib.Core.Path.{_≡_, refl}
 use mathlib.Core.Bool.{true, false}
 use mathlib.Core.Logic.{_⊎_}
 use mathlib.Core.List.{List, [], _++_, flatten}
-use lib.ListN.{length, take, replicate}
+use lib.ListN.{length, getD, take, drop, replicate}
 use Rattle.answer.specs.declared.Refusal.{Refusal}
 use Rattle.answer.specs.declared.Refusal.the-variants.{BrokenState, NoRoom}
 use Rattle.answer.specs.declared.Answer.{Answer}
@@ -19,7 +19,12 @@ use Rattle.octets.specs.Big.{Bytes}
 use Rattle.varint.specs.declared.NumberRead.the-variants.{Whole}
 use Rattle.varint.specs.Numbers.{readNumber, encode, writeVerdict}
 use Rattle.octets.specs.Scan.{anyOf}
-use Rattle.inet.specs.Packet.{versionOf, hopsOf, sourceOf, destinationOf, protocolOf, isIcmp, lowered}
+use Rattle.chain.specs.declared.Carried.the-variants.{Protocol, BadForm}
+use Rattle.chain.specs.Chain.{plain, classOf, sizeOf, offsetOf, onward, behind, chain, chainOf}
+use Rattle.inet.specs.Packet.{versionOf, form, hopsOf, sourceOf, destinationOf, protocolOf, protocolByte, isIcmp, lowered}
+use Rattle.chain.proofs.ChainLaws.{chain-step, behind-shorter}
+use Rattle.inet.proofs.LoweredLaws.{lowered-chain}
+use Rattle.inet.proofs.ProtocolLaws.{chain-same, protocol-plain, past-bad, icmp-not, chain-first-fragment, chain-later-fragment}
 use Rattle.inet.specs.Transport.{damaged}
 use Rattle.lists.specs.declared.AddressEntry.{AddressEntry}
 use Rattle.lists.specs.declared.RouteRange.{RouteRange}
@@ -77,7 +82,7 @@ use Rattle.ends.proofs.Refusals.{writes-leaves, gives-leaves, load-leaves, stat
 use Rattle.ends.proofs.Refusals.{plainly-leaves, plainly-gives-leaves, plainly-read-leaves, plainly-feed-leaves}
 use Rattle.ends.proofs.WrittenBack.{datagram-back, assign-back, request-back, routes-back}
 use Rattle.ends.proofs.Passing.{sends-answer, receives-answer, allowed-passes, passes-allowed, passes-lowers, allowed-taken, taken-allowed, taken-unchanged}
-use Rattle.ends.proofs.Passing.{icmp-out, icmp-out-reply, icmp-in, icmp-in-reply, icmp-4-not-58}
+use Rattle.ends.proofs.Passing.{icmp-out, icmp-out-reply, icmp-in, icmp-in-reply, icmp-4-not-58, chain-out, chain-in}
 use Rattle.ends.proofs.Choosing.{fit-short, none-full, none-wire, zero-none}
 use Rattle.ends.proofs.Agreeing.{alike, takes-in-sent, mirrored-zero, damaged-alike, lowered-apart, twins-one}
 use Rattle.ends.proofs.Crossing.{exchanged-mirror, whole-way, fresh-sound}
@@ -415,6 +420,48 @@ ipv6-one-no-icmp = icmp-6-not-1
 
 pub ipv4-58-no-icmp : (p : List ℕ) → versionOf p ≡ 4 → protocolOf p ≡ 58 → isIcmp p ≡ false
 ipv4-58-no-icmp = icmp-4-not-58
+
+-- request 03: the protocol that grants are about is what the chain of headers leads to, in IPv6. Without extension headers that is byte 6, which checksums count
+pub plain-protocol : (p : List ℕ) → versionOf p ≡ 6 → classOf (getD p 6 0) ≡ plain → protocolOf p ≡ protocolByte p
+plain-protocol = protocol-plain
+
+-- every chain ends: it is its first header and then the chain behind that, which is 8 bytes shorter at least; no count of steps shows
+pub chain-goes-on : (n : ℕ) (l : List ℕ) → chain n l ≡ onward n l (chain (getD l 0 0) (behind n l))
+chain-goes-on = chain-step
+
+pub chain-gets-shorter : (n : ℕ) (l : List ℕ) → sizeOf (classOf n) l ≤ length l → length (behind n l) + 8 ≤ length l
+chain-gets-shorter = behind-shorter
+
+-- it depends on byte 6 and on the bytes from 40 on alone, and lowering changes none of these
+pub chain-depends : (p q : List ℕ) → getD p 6 0 ≡ getD q 6 0 → drop 40 p ≡ drop 40 q → chainOf p ≡ chainOf q
+chain-depends = chain-same
+
+pub chain-kept : (p : List ℕ) → chainOf (lowered p) ≡ chainOf p
+chain-kept = lowered-chain
+
+-- one that runs past the packet is a bad form
+pub chain-past-refused : (p : List ℕ) → versionOf p ≡ 6 → chainOf p ≡ BadForm → form p ≡ false
+chain-past-refused = past-bad
+
+-- ICMP behind a chain passes whatever protocol the range names
+module _ (s : State) (p : List ℕ) (six : versionOf p ≡ 6) (icmp : chainOf p ≡ Protocol 58) where
+  pub icmp-behind-sent : anyOf (covers (sourceOf p)) (s .received .addresses) ≡ true → anyOf (holds (destinationOf p)) (s .received .routes) ≡ true
+      → sendingGranted s p ≡ true
+  icmp-behind-sent = chain-out s p six icmp
+
+  pub icmp-behind-received : anyOf (covers (sourceOf p)) (s .given .addresses) ≡ true → anyOf (holds (destinationOf p)) (s .given .routes) ≡ true
+      → receivingGranted s p ≡ true
+  icmp-behind-received = chain-in s p six icmp
+
+-- a first fragment goes on behind its header; a later one is protocol 44, and so no ICMP
+pub first-fragment : (l : List ℕ) → 8 ≤ length l → offsetOf l ≡ 0 → chain 44 l ≡ chain (getD l 0 0) (drop 8 l)
+first-fragment = chain-first-fragment
+
+pub later-fragment : (l : List ℕ) → 8 ≤ length l → (offsetOf l ≡ 0 → ⊥) → chain 44 l ≡ Protocol 44
+later-fragment = chain-later-fragment
+
+pub no-other-icmp : (p : List ℕ) → versionOf p ≡ 6 → {n : ℕ} → chainOf p ≡ Protocol n → (n ≡ 58 → ⊥) → isIcmp p ≡ false
+no-other-icmp = icmp-not
 
 -- ---- 3. Short and full agree. The packet p passes: the number given back is 0; `datagramOf` is the n bytes that sending wrote
 module _ (s : State) (p out : List ℕ) (passed : Passes s p out) where

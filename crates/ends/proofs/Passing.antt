@@ -10,7 +10,10 @@ use Rattle.answer.specs.declared.Answer.{Answer}
 use Rattle.answer.specs.Number.{answerNumber}
 use Rattle.answer.proofs.Tests.{and-both}
 use Rattle.octets.specs.Scan.{anyOf}
-use Rattle.inet.specs.Packet.{versionOf, form, hopsOf, sourceOf, destinationOf, protocolOf, isIcmp, lowered}
+use Rattle.chain.specs.declared.Carried.the-variants.{Protocol}
+use Rattle.chain.specs.Chain.{chainOf}
+use Rattle.inet.proofs.ProtocolLaws.{icmp-behind}
+use Rattle.inet.specs.Packet.{versionOf, form, hopsOf, sourceOf, destinationOf, protocolOf, icmpIn, isIcmp, lowered}
 use Rattle.inet.proofs.LoweredLaws.{lowered-hopsOf}
 use Rattle.inet.proofs.FormFacts.{form-facts}
 use Rattle.policy.specs.Granted.{flowOf, covers, holds, reversed}
@@ -102,5 +105,15 @@ module _ (s : State) (p : List ℕ) (icmp : isIcmp p ≡ true) where
   icmp-in-reply a r = sym (passes-reversed (s .given) (s .received) (flowOf p)) ∙ passes-icmp (s .received) (s .given) (reversed (flowOf p)) icmp a r
 
 pub icmp-4-not-58 : (p : List ℕ) → versionOf p ≡ 4 → protocolOf p ≡ 58 → isIcmp p ≡ false
-unfolding isIcmp
+unfolding isIcmp icmpIn
 icmp-4-not-58 p v e = rw (v, e)
+
+-- ---- ICMP behind a chain of headers, whatever protocol the range names
+module _ (s : State) (p : List ℕ) (v : versionOf p ≡ 6) (e : chainOf p ≡ Protocol 58) where
+  pub chain-out : anyOf (covers (sourceOf p)) (s .received .addresses) ≡ true → anyOf (holds (destinationOf p)) (s .received .routes) ≡ true
+      → sendingGranted s p ≡ true
+  chain-out = icmp-out s p (icmp-behind p v e refl)
+
+  pub chain-in : anyOf (covers (sourceOf p)) (s .given .addresses) ≡ true → anyOf (holds (destinationOf p)) (s .given .routes) ≡ true
+      → receivingGranted s p ≡ true
+  chain-in = icmp-in s p (icmp-behind p v e refl)

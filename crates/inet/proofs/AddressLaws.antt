@@ -1,4 +1,4 @@
--- Both addresses and the protocol stand in the front of a packet. Assumes nothing.
+-- Both addresses and the hop count stand in the front of a packet. Assumes nothing.
 use mathlib.Core.Path.{_≡_, refl, sym, ap, _∙_}
 use mathlib.Core.Bool.{Bool, true, false}
 use mathlib.Core.List.{List, _++_}
@@ -8,18 +8,15 @@ use lib.ListN.{length, getD, take, drop, length-drop, length-append, List·getD-
 use lib.Seq.{take-append-le, drop-append-le}
 use lib.Dec.{eqb}
 use borrow.Author.Tests.{eqb-true, eqb-false}
+use Rattle.answer.specs.Choice.{pick}
 use Rattle.octets.specs.Big.{big, bigAt}
-use Rattle.inet.specs.Packet.{versionOf, Form, address4At, address6At, sourceOf, destinationOf, protocolOf, isIcmp}
+use Rattle.inet.specs.Packet.{versionOf, Form, address4At, address6At, sourceOf, destinationOf, hopPlace, hopsOf}
 use Rattle.inet.specs.Fronts.{maxHeader, Addressed}
 use Rattle.inet.proofs.FormFacts.{form6-long}
 use Rattle.inet.proofs.HeaderLaws.{sourceOf-4, sourceOf-not-4, destinationOf-4, destinationOf-not-4, address-parts}
 use Rattle.inet.proofs.FrontLaws.{joined-version}
 
--- a packet of good form has both
-pub form-addressed : (p : List ℕ) → Form p → Addressed p
-form-addressed p f = record { long = f .long; six = λ n. form6-long f n }
-
--- so has its front, where that holds any header
+-- the front of a packet of good form has both, where it holds any header
 pub front-addressed : (front tail : List ℕ) {n : ℕ} → length front + length tail ≡ n → min maxHeader n ≤ length front → Form (front ++ tail) → Addressed front
 front-addressed front tail e h f =
     let l = length-append front tail in
@@ -32,7 +29,7 @@ module _ (front tail : List ℕ) (a : Addressed front) where
   joined-at : (i : ℕ) → i < 20 → getD (front ++ tail) i 0 ≡ getD front i 0
   joined-at i h = List·getD-append front tail 0 i (omega (arith, a .long))
 
-  version-same : versionOf (front ++ tail) ≡ versionOf front
+  pub version-same : versionOf (front ++ tail) ≡ versionOf front
   version-same = ap (λ (b : ℕ). b / 16) (joined-at 0 (omega arith))
 
   joined-big : (i n : ℕ) → i + n ≤ length front → bigAt i n (front ++ tail) ≡ bigAt i n front
@@ -69,10 +66,11 @@ module _ (front tail : List ℕ) (a : Addressed front) where
           let n = eqb-false (versionOf front) 4 e in
           destinationOf-not-4 (front ++ tail) (λ v. n (sym version-same ∙ v)) ∙ joined-6 n 24 (omega arith) ∙ sym (destinationOf-not-4 front n)
 
-  pub joined-protocol : protocolOf (front ++ tail) ≡ protocolOf front
-  unfolding protocolOf
-  joined-protocol = rw (joined-at 0 (omega arith), joined-at 9 (omega arith), joined-at 6 (omega arith))
-
-  pub joined-icmp : isIcmp (front ++ tail) ≡ isIcmp front
-  unfolding isIcmp
-  joined-icmp = rw (joined-protocol, joined-at 0 (omega arith))
+  -- and so does the hop count
+  pub joined-hops : hopsOf (front ++ tail) ≡ hopsOf front
+  unfolding hopsOf hopPlace
+  joined-hops = rw version-same (go (eqb (versionOf front) 4))
+    where
+      go : (t : Bool) → getD (front ++ tail) (pick t 8 7) 0 ≡ getD front (pick t 8 7) 0
+      go true = joined-at 8 (omega arith)
+      go false = joined-at 7 (omega arith)

@@ -8,7 +8,7 @@ use native.Mathlib.Omega.{arith}
 use lib.ListN.{length}
 use borrow.Author.Tests.{leb-true, eqb-true, le-leb, eq-eqb}
 use Rattle.answer.proofs.Tests.{and-both, only-false}
-use Rattle.inet.specs.Packet.{versionOf, form4, form6, form, Form4, Form6, Form, Headed4, Headed6, Headed}
+use Rattle.inet.specs.Packet.{versionOf, form4, fixed6, form6, form, Form4, Fixed6, Form6, Form, Headed4, Headed6, Headed}
 
 pub form4-facts : (p : List ℕ) → form4 p ≡ true → Form4 p
 unfolding form4
@@ -35,18 +35,29 @@ facts-form4 p f =
 pub form4-fails : (p : List ℕ) → (Form4 p → ⊥) → form4 p ≡ false
 form4-fails p h = only-false (form4 p) (λ e. h (form4-facts p e))
 
-pub form6-facts : (p : List ℕ) → form6 p ≡ true → Form6 p
-unfolding form6
-form6-facts p e =
+pub fixed6-facts : (p : List ℕ) → fixed6 p ≡ true → Fixed6 p
+unfolding fixed6
+fixed6-facts p e =
     let f = and-both _ _ e in
     let g = and-both _ _ (f .0) in
     record { long = leb-true _ _ (g .0); six = eqb-true _ _ (g .1); payload = eqb-true _ _ (f .1) }
 
-pub facts-form6 : (p : List ℕ) → Form6 p → form6 p ≡ true
-unfolding form6
-facts-form6 p f = simp (le-leb _ _ (f .long), eq-eqb _ _ (f .six), eq-eqb _ _ (f .payload))
+pub facts-fixed6 : (p : List ℕ) → Fixed6 p → fixed6 p ≡ true
+unfolding fixed6
+facts-fixed6 p f = simp (le-leb _ _ (f .long), eq-eqb _ _ (f .six), eq-eqb _ _ (f .payload))
 
-pub form6-fails : (p : List ℕ) → (Form6 p → ⊥) → form6 p ≡ false
+pub fixed6-fails : (p : List ℕ) → (Fixed6 p → ⊥) → fixed6 p ≡ false
+fixed6-fails p h = only-false (fixed6 p) (λ e. h (fixed6-facts p e))
+
+form6-facts : (p : List ℕ) → form6 p ≡ true → Form6 p
+unfolding form6
+form6-facts p e = let f = and-both _ _ e in record { fixed = fixed6-facts p (f .0); chain = f .1 }
+
+facts-form6 : (p : List ℕ) → Form6 p → form6 p ≡ true
+unfolding form6
+facts-form6 p f = simp (facts-fixed6 p (f .fixed), f .chain)
+
+form6-fails : (p : List ℕ) → (Form6 p → ⊥) → form6 p ≡ false
 form6-fails p h = only-false (form6 p) (λ e. h (form6-facts p e))
 
 -- which of the two it is
@@ -54,7 +65,7 @@ pub form-4 : {p : List ℕ} → Form4 p → Form p
 form-4 f = record { long = f .long; kind = inl f }
 
 pub form-6 : {p : List ℕ} → Form6 p → Form p
-form-6 f = record { long = omega arith; kind = inr f }
+form-6 f = record { long = omega (arith, f .fixed .long); kind = inr f }
 
 either : (a b : Bool) → (a || b) ≡ true → (a ≡ true) ⊎ (b ≡ true)
 either true b e = inl refl
@@ -92,12 +103,12 @@ pub is-form6 : (p : List ℕ) → Form p → (versionOf p ≡ 4 → ⊥) → For
 is-form6 p f n = kind-6 p (f .kind) n
 
 pub form6-long : {p : List ℕ} → Form p → (versionOf p ≡ 4 → ⊥) → 40 ≤ length p
-form6-long {p} f n = is-form6 p f n .long
+form6-long {p} f n = is-form6 p f n .fixed .long
 
 -- of a version, the form is that of its kind
 pub form-of-4 : (p : List ℕ) → versionOf p ≡ 4 → form4 p ≡ form p
 unfolding form
-form-of-4 p e = rw (form6-fails p (λ f. omega arith)) (sym (or-false (form4 p)))
+form-of-4 p e = rw (form6-fails p (λ f. omega (arith, f .fixed .six))) (sym (or-false (form4 p)))
   where
     or-false : (b : Bool) → (b || false) ≡ b
     or-false true = refl
@@ -109,7 +120,7 @@ form-of-6 p e = rw (form4-fails p (λ f. omega arith))
 
 kind-other : (p : List ℕ) → (versionOf p ≡ 4 → ⊥) → (versionOf p ≡ 6 → ⊥) → Form4 p ⊎ Form6 p → ⊥
 kind-other p n m (inl f) = n (f .four)
-kind-other p n m (inr f) = m (f .six)
+kind-other p n m (inr f) = m (f .fixed .six)
 
 pub form-of-other : (p : List ℕ) → (versionOf p ≡ 4 → ⊥) → (versionOf p ≡ 6 → ⊥) → form p ≡ false
 form-of-other p n m = form-fails p (λ f. kind-other p n m (f .kind))
@@ -131,7 +142,7 @@ is-headed6 p f n = headed-kind-6 p (f .kind) n
 
 form-headed-kind : (p : List ℕ) → Form4 p ⊎ Form6 p → Headed p
 form-headed-kind p (inl f) = record { kind = inl (record { long = f .long; four = f .four; ihl = f .ihl; head = f .head }) }
-form-headed-kind p (inr f) = record { kind = inr (record { long = omega arith; six = f .six }) }
+form-headed-kind p (inr f) = record { kind = inr (record { long = omega (arith, f .fixed .long); six = f .fixed .six }) }
 
 -- a packet of good form has it
 pub form-headed : (p : List ℕ) → Form p → Headed p

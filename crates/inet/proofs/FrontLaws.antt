@@ -11,8 +11,8 @@ use lib.Dec.{eqb}
 use Rattle.answer.specs.Choice.{pick}
 use Rattle.inet.specs.Sum.{words, fold}
 use Rattle.inet.specs.Fronts.{maxHeader, Tells}
-use Rattle.inet.specs.Packet.{versionOf, headerLength, form4, form6, form, Form, Form4, Form6, Headed, hopPlace, hopsOf, put16, hop4, hop6, headerCheck, lowered4, lowered}
-use Rattle.inet.proofs.FormFacts.{form4-fails, facts-form4, form6-fails, facts-form6, form-of-4, form-of-6, form-of-other}
+use Rattle.inet.specs.Packet.{versionOf, headerLength, form4, fixed6, Form, Form4, Fixed6, Form6, Headed, hopPlace, hopsOf, put16, hop4, hop6, headerCheck, lowered4, lowered}
+use Rattle.inet.proofs.FormFacts.{form4-fails, facts-form4, fixed6-fails, facts-fixed6}
 use Rattle.inet.proofs.FieldLaws.{put-take}
 use Rattle.inet.proofs.LoweredLaws.{lowered-4, lowered-6}
 
@@ -45,7 +45,10 @@ module _ (k : ℕ) (p : List ℕ) (h : 60 ≤ k) where
   take-headed-kind (inl f) =
       let l = length-take k p in
       record { kind = inl (record { long = omega arith; four = take-version ∙ f .four; ihl = rw take-first (f .ihl); head = rw take-first (omega arith) }) }
-  take-headed-kind (inr f) = let l = length-take k p in record { kind = inr (record { long = omega arith; six = take-version ∙ f .six }) }
+  take-headed-kind (inr f) =
+      let l = length-take k p in
+      let g = f .fixed in
+      record { kind = inr (record { long = omega arith; six = take-version ∙ g .six }) }
 
   pub take-headed : Form p → Headed (take k p)
   take-headed f = take-headed-kind (f .kind)
@@ -71,13 +74,13 @@ take-kind : (k : ℕ) (p : List ℕ) → 60 ≤ k → Form4 p ⊎ Form6 p → lo
 take-kind k p h (inl f) =
     lowered-4 (take k p) (take-version k p h ∙ f .four) ∙ take-lowered4 k p h ∙ ap (take k) (sym (lowered-4 p (f .four)))
 take-kind k p h (inr f) =
-    lowered-6 (take k p) (take-version k p h ∙ f .six) ∙ take-hop6 k p h ∙ ap (take k) (sym (lowered-6 p (f .six)))
+    lowered-6 (take k p) (take-version k p h ∙ f .fixed .six) ∙ take-hop6 k p h ∙ ap (take k) (sym (lowered-6 p (f .fixed .six)))
 
 -- the front lowered is the front of the lowered packet
 pub take-lowered : (k : ℕ) (p : List ℕ) → 60 ≤ k → Form p → lowered (take k p) ≡ take k (lowered p)
 take-lowered k p h f = take-kind k p h (f .kind)
 
--- ---- the form of a packet of n bytes, as facts about its front
+-- ---- the form of a packet of n bytes, and of IPv6 the fixed header, as facts about its front
 pub record Front4 (front : List ℕ) (n : ℕ) : Type 0 where
   pub long : 20 ≤ n
   pub four : versionOf front ≡ 4
@@ -95,7 +98,7 @@ module _ (front tail : List ℕ) {n : ℕ} (e : length front + length tail ≡ n
   joined-length : length (front ++ tail) ≡ n
   joined-length = length-append front tail ∙ e
 
-  joined-at : (i : ℕ) → i < maxHeader → i < n → getD (front ++ tail) i 0 ≡ getD front i 0
+  pub joined-at : (i : ℕ) → i < maxHeader → i < n → getD (front ++ tail) i 0 ≡ getD front i 0
   joined-at i k l = List·getD-append front tail 0 i (omega arith)
 
   -- the version of no bytes at all is 0
@@ -136,7 +139,7 @@ module _ (front tail : List ℕ) {n : ℕ} (e : length front + length tail ≡ n
         sum = ap fold (sym (joined-header k)) ∙ rw a at (f .sum);
       }
 
-  joined-6 : Front6 front n → Form6 (front ++ tail)
+  joined-6 : Front6 front n → Fixed6 (front ++ tail)
   joined-6 f =
       record {
         long = omega (arith, joined-length);
@@ -144,7 +147,7 @@ module _ (front tail : List ℕ) {n : ℕ} (e : length front + length tail ≡ n
         payload = omega (arith, joined-at 4 (omega arith) (omega arith), joined-at 5 (omega arith) (omega arith), joined-length);
       }
 
-  front-6 : Form6 (front ++ tail) → Front6 front n
+  front-6 : Fixed6 (front ++ tail) → Front6 front n
   front-6 f =
       let l = joined-length in
       record {
@@ -161,19 +164,8 @@ module _ {front : List ℕ} {n : ℕ} (h : min maxHeader n ≤ length front) whe
   pub tells-not-4 : (Front4 front n → ⊥) → Tells form4 front n false
   tells-not-4 k = record { told = λ tail e. sym (form4-fails (front ++ tail) (λ f. k (front-4 front tail e h f))) }
 
-  pub tells-6 : Front6 front n → Tells form6 front n true
-  tells-6 f = record { told = λ tail e. sym (facts-form6 (front ++ tail) (joined-6 front tail e h f)) }
+  pub tells-6 : Front6 front n → Tells fixed6 front n true
+  tells-6 f = record { told = λ tail e. sym (facts-fixed6 (front ++ tail) (joined-6 front tail e h f)) }
 
-  pub tells-not-6 : (Front6 front n → ⊥) → Tells form6 front n false
-  tells-not-6 k = record { told = λ tail e. sym (form6-fails (front ++ tail) (λ f. k (front-6 front tail e h f))) }
-
-  module _ {b : Bool} where
-    pub tells-of-4 : versionOf front ≡ 4 → Tells form4 front n b → Tells form front n b
-    tells-of-4 v t = record { told = λ tail e. t .told tail e ∙ form-of-4 (front ++ tail) (joined-version front tail e h ∙ v) }
-
-    pub tells-of-6 : versionOf front ≡ 6 → Tells form6 front n b → Tells form front n b
-    tells-of-6 v t = record { told = λ tail e. t .told tail e ∙ form-of-6 (front ++ tail) (joined-version front tail e h ∙ v) }
-
-  pub tells-of-other : (versionOf front ≡ 4 → ⊥) → (versionOf front ≡ 6 → ⊥) → Tells form front n false
-  tells-of-other k m =
-      record { told = λ tail e. let v = joined-version front tail e h in sym (form-of-other (front ++ tail) (λ f. k (sym v ∙ f)) (λ f. m (sym v ∙ f))) }
+  pub tells-not-6 : (Front6 front n → ⊥) → Tells fixed6 front n false
+  tells-not-6 k = record { told = λ tail e. sym (fixed6-fails (front ++ tail) (λ f. k (front-6 front tail e h f))) }

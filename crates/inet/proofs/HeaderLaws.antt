@@ -9,7 +9,8 @@ use lib.Dec.{eqb}
 use borrow.Author.Tests.{eq-eqb, ne-eqb}
 use Rattle.answer.specs.Choice.{pick}
 use Rattle.inet.specs.declared.Address.{Address}
-use Rattle.inet.specs.Packet.{versionOf, address4At, address6At, sourceOf, destinationOf, protocolOf, protocolByte, isIcmp, hopPlace, hopsOf}
+use Rattle.inet.specs.Packet.{versionOf, address4At, address6At, sourceOf, destinationOf, protocolOf, protocolByte, icmpIn, isIcmp, hopPlace, hopsOf}
+use Rattle.chain.specs.Chain.{chainOf, protocolIn}
 
 -- a choice by the version, in a packet of version 4, 6, and any other
 module _ {A : Type 0} (v : ℕ) (a b d : A) where
@@ -24,6 +25,19 @@ module _ {A : Type 0} (v : ℕ) (a b d : A) where
 
   pub pick-other : (v ≡ 4 → ⊥) → (v ≡ 6 → ⊥) → pick (eqb v 4) a (pick (eqb v 6) b d) ≡ d
   pick-other n m = rw (ne-eqb v 4 n, ne-eqb v 6 m)
+
+module _ (v q : ℕ) where
+  pub icmpIn-4 : v ≡ 4 → eqb q 1 ≡ icmpIn v q
+  unfolding icmpIn
+  icmpIn-4 e = sym (pick-4 v (eqb q 1) _ false e)
+
+  pub icmpIn-6 : v ≡ 6 → eqb q 58 ≡ icmpIn v q
+  unfolding icmpIn
+  icmpIn-6 e = sym (pick-6 v (eqb q 1) (eqb q 58) false e)
+
+  pub icmpIn-other : (v ≡ 4 → ⊥) → (v ≡ 6 → ⊥) → false ≡ icmpIn v q
+  unfolding icmpIn
+  icmpIn-other n m = sym (pick-other v _ _ false n m)
 
 module _ (p : List ℕ) where
   pub sourceOf-4 : versionOf p ≡ 4 → sourceOf p ≡ address4At 12 p
@@ -46,13 +60,9 @@ module _ (p : List ℕ) where
   unfolding protocolOf
   protocolOf-4 e = pick-4 (versionOf p) _ _ 0 e
 
-  pub protocolOf-6 : versionOf p ≡ 6 → protocolOf p ≡ getD p 6 0
+  pub protocolOf-6 : versionOf p ≡ 6 → protocolOf p ≡ protocolIn (chainOf p)
   unfolding protocolOf
-  protocolOf-6 e = pick-6 (versionOf p) _ _ 0 e
-
-  pub protocolOf-other : (versionOf p ≡ 4 → ⊥) → (versionOf p ≡ 6 → ⊥) → protocolOf p ≡ 0
-  unfolding protocolOf
-  protocolOf-other n m = pick-other (versionOf p) _ _ 0 n m
+  protocolOf-6 e = pick-6 (versionOf p) _ (protocolIn (chainOf p)) 0 e
 
   pub protocolByte-4 : versionOf p ≡ 4 → protocolByte p ≡ getD p 9 0
   unfolding protocolByte
@@ -66,17 +76,9 @@ module _ (p : List ℕ) where
   unfolding protocolByte
   protocolByte-other n m = pick-other (versionOf p) _ _ 0 n m
 
-  pub isIcmp-4 : {q : ℕ} → versionOf p ≡ 4 → q ≡ protocolOf p → eqb q 1 ≡ isIcmp p
+  pub isIcmp-6 : versionOf p ≡ 6 → eqb (protocolOf p) 58 ≡ isIcmp p
   unfolding isIcmp
-  isIcmp-4 e f = rw f (sym (pick-4 (versionOf p) (eqb (protocolOf p) 1) _ false e))
-
-  pub isIcmp-6 : {q : ℕ} → versionOf p ≡ 6 → q ≡ protocolOf p → eqb q 58 ≡ isIcmp p
-  unfolding isIcmp
-  isIcmp-6 e f = rw f (sym (pick-6 (versionOf p) (eqb (protocolOf p) 1) (eqb (protocolOf p) 58) false e))
-
-  pub isIcmp-other : (versionOf p ≡ 4 → ⊥) → (versionOf p ≡ 6 → ⊥) → isIcmp p ≡ false
-  unfolding isIcmp
-  isIcmp-other n m = pick-other (versionOf p) _ _ false n m
+  isIcmp-6 e = icmpIn-6 (versionOf p) (protocolOf p) e
 
   pub hopPlace-4 : versionOf p ≡ 4 → hopPlace p ≡ 8
   unfolding hopPlace

@@ -6,3 +6,5 @@ pub mod LoweredLaws
 pub mod TransportLaws
 pub mod FrontLaws
 pub mod AddressLaws
+pub mod CarriedLaws
+pub mod ProtocolLaws

@@ -11,7 +11,8 @@ use lib.Dec.{eqb}
 use borrow.Author.Tests.{eqb-true, eqb-false}
 use Rattle.answer.specs.Choice.{pick}
 use Rattle.inet.specs.Sum.{words, fold}
-use Rattle.inet.specs.Packet.{versionOf, headerLength, form, Form, Form4, Form6, Headed4, Headed, address4At, address6At, sourceOf, destinationOf}
+use Rattle.chain.specs.Chain.{chainOf, whole}
+use Rattle.inet.specs.Packet.{versionOf, headerLength, form, Form, Form4, Fixed6, Form6, Headed4, Headed, address4At, address6At, sourceOf, destinationOf}
 use Rattle.inet.specs.Packet.{protocolOf, protocolByte, isIcmp, hopsOf, put16, hop4, hop6, headerCheck, lowered4, lowered}
 use Rattle.inet.proofs.WordLaws.{words-pos}
 use Rattle.inet.proofs.FormFacts.{form-facts, facts-form, form-4, form-6, is-headed4, is-headed6}
@@ -88,13 +89,20 @@ module _ (p : List ℕ) where
   low6-length : length (hop6 p) ≡ length p
   low6-length = length-set p 7 _
 
-low6-form : (p : List ℕ) → Form6 p → Form6 (hop6 p)
-low6-form p f =
+  low6-chain : chainOf (hop6 p) ≡ chainOf p
+  unfolding chainOf
+  low6-chain = rw (low6-at 6 (omega arith), drop-set-lt 40 p 7 (getD p 7 0 - 1) (omega arith))
+
+low6-fixed : (p : List ℕ) → Fixed6 p → Fixed6 (hop6 p)
+low6-fixed p f =
     let e = low6-at p 0 (omega arith) in
     let l = low6-length p in
     let t = low6-at p 4 (omega arith) in
     let u = low6-at p 5 (omega arith) in
     record { long = omega arith; six = rw e (f .six); payload = omega arith }
+
+low6-form : (p : List ℕ) → Form6 p → Form6 (hop6 p)
+low6-form p f = record { fixed = low6-fixed p (f .fixed); chain = ap whole (low6-chain p) ∙ f .chain }
 
 -- any version: which of the three the lowered packet is
 module _ (p : List ℕ) where
@@ -147,9 +155,14 @@ module _ (p : List ℕ) where
   pub lowered-version : versionOf (lowered p) ≡ versionOf p
   lowered-version = ap (λ (b : ℕ). b / 16) lowered-first
 
+  -- it depends on byte 6 and the bytes from 40 on alone
+  pub lowered-chain : chainOf (lowered p) ≡ chainOf p
+  unfolding chainOf
+  lowered-chain = rw (lowered-six, lowered-drop 40 (omega arith))
+
   pub lowered-protocolOf : protocolOf (lowered p) ≡ protocolOf p
   unfolding protocolOf
-  lowered-protocolOf = rw (lowered-first, lowered-six, lowered-nine)
+  lowered-protocolOf = rw (lowered-first, lowered-nine, lowered-chain)
 
   pub lowered-protocolByte : protocolByte (lowered p) ≡ protocolByte p
   unfolding protocolByte
@@ -180,7 +193,7 @@ module _ (p : List ℕ) where
 -- packets of good form
 kind-lowered : (p : List ℕ) → Form4 p ⊎ Form6 p → Form (lowered p)
 kind-lowered p (inl f) = rw (lowered-4 p (f .four)) (form-4 (low4-form p f))
-kind-lowered p (inr f) = rw (lowered-6 p (f .six)) (form-6 (low6-form p f))
+kind-lowered p (inr f) = rw (lowered-6 p (f .fixed .six)) (form-6 (low6-form p f))
 
 kind-hops : (p : List ℕ) → Form4 p ⊎ Form6 p → hopsOf (lowered p) ≡ hopsOf p - 1
 kind-hops p (inl f) =
@@ -188,8 +201,9 @@ kind-hops p (inl f) =
     let h = hopsOf-4 (lowered p) v ∙ ap (λ (q : List ℕ). getD q 8 0) (lowered-4 p (f .four)) ∙ low4-hops p (omega arith) in
     omega (arith, hopsOf-4 p (f .four))
 kind-hops p (inr f) =
-    let v : versionOf (lowered p) ≡ 6 = lowered-version p ∙ f .six in
-    let h = hopsOf-not-4 (lowered p) (λ e. omega arith) ∙ ap (λ (q : List ℕ). getD q 7 0) (lowered-6 p (f .six)) ∙ getD-set-same p 7 _ 0 (omega arith) in
+    let g = f .fixed in
+    let v : versionOf (lowered p) ≡ 6 = lowered-version p ∙ g .six in
+    let h = hopsOf-not-4 (lowered p) (λ e. omega arith) ∙ ap (λ (q : List ℕ). getD q 7 0) (lowered-6 p (g .six)) ∙ getD-set-same p 7 _ 0 (omega arith) in
     omega (arith, hopsOf-not-4 p (λ e. omega arith))
 
 pub lowered-Form : (p : List ℕ) → Form p → Form (lowered p)

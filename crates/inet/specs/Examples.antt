@@ -1,10 +1,13 @@
--- Computed examples: RFC 1071's own sum, a UDP packet of 28 bytes, two headers that lower to the same bytes, and an IPv6 header. Assumes nothing.
+-- Computed examples: RFC 1071's own sum, a UDP packet of 28 bytes, two headers that lower to the same bytes, an IPv6 header, and chains of IPv6 headers. Assumes nothing.
 use mathlib.Core.Path.{_≡_, refl}
 use mathlib.Core.Bool.{true, false}
-use mathlib.Core.List.{List, [], _∷_}
+use mathlib.Core.List.{List, [], _∷_, _++_}
 use Prim.Native.Nat.{ℕ}
+use lib.ListN.{take}
 use Rattle.inet.specs.Sum.{words, fold, carry}
-use Rattle.inet.specs.Packet.{form4, form6, form, sourceOf, destinationOf, protocolOf, protocolByte, isIcmp, put16, headerCheck, lowered4, lowered}
+use Rattle.chain.specs.Chain.{classOf, sizeOf, later, onward, walk, chain, chainOf}
+use Rattle.chain.specs.Examples.{hopByHop, fragmentOf, echo}
+use Rattle.inet.specs.Packet.{form4, fixed6, form6, form, sourceOf, destinationOf, protocolOf, protocolByte, icmpIn, isIcmp, put16, headerCheck, lowered4, lowered}
 use Rattle.inet.specs.Transport.{addressWords, seed, fieldIs, sent, finish, completion, damaged}
 
 -- RFC 1071, section 3
@@ -41,11 +44,11 @@ form-sample = refl
 
 -- one bit of the header changed
 form-broken : form (udp 0x40 0x8e 0x99 0x07 0xd0 0x07 0xed) ≡ false
-unfolding udp form form4 form6 fold words
+unfolding udp form form4 form6 fixed6 fold words
 form-broken = refl
 
 form-empty : form [] ≡ false
-unfolding form form4 form6 fold words
+unfolding form form4 form6 fixed6 fold words
 form-empty = refl
 
 source-sample : sourceOf sample ≡ record { version = 4; hi = 0; lo = 0xc0000203 }
@@ -107,7 +110,7 @@ ipv6 next hops =
     ∷ 0x20 ∷ 0x01 ∷ 0x0d ∷ 0xb8 ∷ 0x00 ∷ 0x00 ∷ 0x00 ∷ 0x00 ∷ 0x00 ∷ 0x00 ∷ 0x00 ∷ 0x00 ∷ 0x00 ∷ 0x00 ∷ 0x00 ∷ 0x02 ∷ []
 
 form-ipv6 : form (ipv6 58 64) ≡ true
-unfolding ipv6 form form4 form6 fold words
+unfolding ipv6 form form4 form6 fixed6 chainOf chain walk onward classOf fold words
 form-ipv6 = refl
 
 destination-ipv6 : destinationOf (ipv6 58 64) ≡ record { version = 6; hi = 0x20010db800000000; lo = 2 }
@@ -120,9 +123,48 @@ lowered-ipv6 = refl
 
 -- ICMP is 58 in IPv6 and 1 in IPv4, and neither in the other
 isIcmp-ipv6 : isIcmp (ipv6 58 64) ≡ true
-unfolding ipv6 isIcmp protocolOf
+unfolding ipv6 isIcmp icmpIn protocolOf chainOf chain walk onward classOf
 isIcmp-ipv6 = refl
 
 isIcmp-ipv6-one : isIcmp (ipv6 1 64) ≡ false
-unfolding ipv6 isIcmp protocolOf
+unfolding ipv6 isIcmp icmpIn protocolOf chainOf chain walk onward classOf
 isIcmp-ipv6-one = refl
+
+-- ---- chains of IPv6 headers
+
+-- a packet with hop-by-hop options: an echo request, and a later fragment of one
+carrying : ℕ → List ℕ → List ℕ
+carrying size rest =
+    0x60 ∷ 0x00 ∷ 0x00 ∷ 0x00 ∷ 0x00 ∷ size ∷ 0x00 ∷ 0x40
+    ∷ 0x20 ∷ 0x01 ∷ 0x0d ∷ 0xb8 ∷ 0x00 ∷ 0x00 ∷ 0x00 ∷ 0x00 ∷ 0x00 ∷ 0x00 ∷ 0x00 ∷ 0x00 ∷ 0x00 ∷ 0x00 ∷ 0x00 ∷ 0x01
+    ∷ 0x20 ∷ 0x01 ∷ 0x0d ∷ 0xb8 ∷ 0x00 ∷ 0x00 ∷ 0x00 ∷ 0x00 ∷ 0x00 ∷ 0x00 ∷ 0x00 ∷ 0x00 ∷ 0x00 ∷ 0x00 ∷ 0x00 ∷ 0x02 ∷ rest
+
+asked : List ℕ
+asked = carrying 16 (hopByHop 58 ++ echo)
+
+cut : List ℕ
+cut = carrying 7 (take 7 (hopByHop 58))
+
+laterPart : List ℕ
+laterPart = carrying 24 (hopByHop 44 ++ (fragmentOf 58 0x05 0xa8 ++ echo))
+
+form-asked : form asked ≡ true
+unfolding asked carrying hopByHop echo form form4 form6 fixed6 chainOf chain walk onward classOf sizeOf later fold words
+form-asked = refl
+
+form-cut : form cut ≡ false
+unfolding cut carrying hopByHop form form4 form6 fixed6 chainOf chain walk onward classOf sizeOf later fold words
+form-cut = refl
+
+icmp-asked : isIcmp asked ≡ true
+unfolding asked carrying hopByHop echo isIcmp icmpIn protocolOf chainOf chain walk onward classOf sizeOf later
+icmp-asked = refl
+
+icmp-later : isIcmp laterPart ≡ false
+unfolding laterPart carrying hopByHop fragmentOf echo isIcmp icmpIn protocolOf chainOf chain walk onward classOf sizeOf later
+icmp-later = refl
+
+-- checksums count byte 6
+byte-asked : protocolByte asked ≡ 0
+unfolding asked carrying protocolByte
+byte-asked = refl

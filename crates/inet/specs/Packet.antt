@@ -1,6 +1,6 @@
 -- IP packets as lists of bytes: their form (RFC 791, RFC 8200), what their headers say, and the packet with one hop fewer.
 use Prim.Native.Nat.{ℕ, _+_, _-_, _*_, _/_, _%_, _≤_}
-use mathlib.Core.Bool.{Bool, false, _&&_, _||_}
+use mathlib.Core.Bool.{Bool, true, false, _&&_, _||_}
 use mathlib.Core.List.{List}
 use mathlib.Core.Logic.{_⊎_}
 use mathlib.Core.Path.{_≡_}
@@ -10,6 +10,7 @@ use Rattle.answer.specs.Choice.{pick}
 use Rattle.octets.specs.Big.{bigAt}
 use Rattle.inet.specs.declared.Address.{Address}
 use Rattle.inet.specs.Sum.{words, fold}
+use Rattle.chain.specs.Chain.{chainOf, whole, protocolIn}
 
 -- the version: the high half of byte 0
 abbrev pub versionOf : List ℕ → ℕ
@@ -30,8 +31,12 @@ form4 p =
     && eqb (fold (words (take (headerLength p) p))) 65535
 
 -- IPv6: at least 40 bytes, and the payload length plus 40 that of the packet
+unfoldable pub fixed6 : List ℕ → Bool
+fixed6 p = leb 40 (length p) && eqb (versionOf p) 6 && eqb (getD p 4 0 * 256 + getD p 5 0 + 40) (length p)
+
+-- and each header of its chain is there whole
 unfoldable pub form6 : List ℕ → Bool
-form6 p = leb 40 (length p) && eqb (versionOf p) 6 && eqb (getD p 4 0 * 256 + getD p 5 0 + 40) (length p)
+form6 p = fixed6 p && whole (chainOf p)
 
 -- a packet of good form; any other version is bad
 unfoldable pub form : List ℕ → Bool
@@ -46,10 +51,14 @@ pub record Form4 (p : List ℕ) : Type 0 where
   pub total : getD p 2 0 * 256 + getD p 3 0 ≡ length p
   pub sum : fold (words (take (headerLength p) p)) ≡ 65535
 
-pub record Form6 (p : List ℕ) : Type 0 where
+pub record Fixed6 (p : List ℕ) : Type 0 where
   pub long : 40 ≤ length p
   pub six : versionOf p ≡ 6
   pub payload : getD p 4 0 * 256 + getD p 5 0 + 40 ≡ length p
+
+pub record Form6 (p : List ℕ) : Type 0 where
+  pub fixed : Fixed6 p
+  pub chain : whole (chainOf p) ≡ true
 
 pub record Form (p : List ℕ) : Type 0 where
   pub long : 20 ≤ length p
@@ -70,17 +79,20 @@ sourceOf p = pick (eqb (versionOf p) 4) (address4At 12 p) (address6At 8 p)
 unfoldable pub destinationOf : List ℕ → Address
 destinationOf p = pick (eqb (versionOf p) 4) (address4At 16 p) (address6At 24 p)
 
--- the protocol that grants are about: byte 9 of IPv4, byte 6 of IPv6, and 0 of any other version
+-- the protocol that grants are about: byte 9 of IPv4, what the chain of IPv6 leads to, and 0 of any other version
 unfoldable pub protocolOf : List ℕ → ℕ
-protocolOf p = pick (eqb (versionOf p) 4) (getD p 9 0) (pick (eqb (versionOf p) 6) (getD p 6 0) 0)
+protocolOf p = pick (eqb (versionOf p) 4) (getD p 9 0) (pick (eqb (versionOf p) 6) (protocolIn (chainOf p)) 0)
 
 -- the protocol that checksums count: byte 9 of IPv4, byte 6 of IPv6, and 0 of any other version
 unfoldable pub protocolByte : List ℕ → ℕ
 protocolByte p = pick (eqb (versionOf p) 4) (getD p 9 0) (pick (eqb (versionOf p) 6) (getD p 6 0) 0)
 
 -- ICMP is 1 in IPv4 only, and 58 in IPv6 only
+unfoldable pub icmpIn : ℕ → ℕ → Bool
+icmpIn version protocol = pick (eqb version 4) (eqb protocol 1) (pick (eqb version 6) (eqb protocol 58) false)
+
 unfoldable pub isIcmp : List ℕ → Bool
-isIcmp p = pick (eqb (versionOf p) 4) (eqb (protocolOf p) 1) (pick (eqb (versionOf p) 6) (eqb (protocolOf p) 58) false)
+isIcmp p = icmpIn (versionOf p) (protocolOf p)
 
 -- the place of the hop count: TTL of IPv4, hop limit of IPv6
 unfoldable pub hopPlace : List ℕ → ℕ

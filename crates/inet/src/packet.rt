@@ -1,37 +1,48 @@
 // The form of a packet, and what its header says.
 ghost use mathlib.Core.Path.{_≡_};
-ghost use Prim.Native.Nat.{_≤_, _<_, _+_, _*_, min};
+ghost use mathlib.Core.Bool.{true};
+ghost use mathlib.Core.List.{_++_};
+ghost use Prim.Native.Nat.{_≤_, _<_, _+_, min};
 ghost use lib.ListN.{length, getD};
-ghost use Rattle.inet.specs.Packet.{versionOf, form4, form6, form, address4At, address6At, sourceOf, destinationOf};
-ghost use Rattle.inet.specs.Fronts.{maxHeader, Tells, Addressed};
-ghost use Rattle.inet.specs.Packet.{protocolOf, protocolByte, isIcmp, hopPlace, hopsOf};
+ghost use Rattle.chain.specs.Chain.{maxPayload};
+ghost use Rattle.inet.specs.Packet.{versionOf, form4, fixed6, address4At, address6At, sourceOf, destinationOf};
+ghost use Rattle.inet.specs.Packet.{protocolByte, icmpIn, hopPlace, hopsOf};
+ghost use Rattle.inet.specs.Fronts.{maxHeader, Tells, Parted, carriedBy, Addressed};
 use super::Address;
 use super::sum::folded;
 use super::sum::sum_quads;
 use super::sum::word;
+use chain::Carried;
+use chain::is_extension;
+use chain::walk;
 
-// Whether the bytes are a packet of good form.
-pub fn form(packet: &[u8]) -> bool
-    ensures { λ r. ⌜ r ≡ form (now (packet .entry)) ⌝ }
+// What a packet in two parts carries, if its form is good.
+pub fn carried<'a>(front: &'a [u8], tail: &'a [u8]) -> Carried
+    requires { ⌜ Parted (now front) (now tail) ⌝ }
+    ensures { λ r. ⌜ r ≡ carriedBy (now (front .entry) ++ now (tail .entry)) ⌝ }
 {
-    front_form(packet, packet.len())
-}
-
-// The same of a packet of so many bytes, of which the front is here: its header tells.
-pub fn front_form(front: &[u8], size: usize) -> bool
-    requires { ⌜ min maxHeader size ≤ length (now front) ⌝ }
-    ensures { λ r. ⌜ Tells form (now (front .entry)) size r ⌝ }
-{
+    let size = front.len() + tail.len();
     let v = version(front);
     if v == 4 {
-        return ipv4_form(front, size);
+        if !ipv4_form(front, size) {
+            return Carried::BadForm;
+        }
+        return Carried::Protocol(byte_at(front, 9));
     }
     if v == 6 {
-        return ipv6_form(front, size);
+        if !ipv6_fixed(front, size) {
+            return Carried::BadForm;
+        }
+        let first = byte_at(front, 6);
+        if !is_extension(first) {
+            return Carried::Protocol(first);
+        }
+        return walk(front, tail, first);
     }
-    false
+    Carried::BadForm
 }
 
+// The form of an IPv4 packet of so many bytes, of which the front is here: its header tells.
 fn ipv4_form(p: &[u8], size: usize) -> bool
     requires { ⌜ min maxHeader size ≤ length (now p) ⌝ }
     ensures { λ r. ⌜ Tells form4 (now (p .entry)) size r ⌝ }
@@ -59,9 +70,10 @@ fn ipv4_form(p: &[u8], size: usize) -> bool
     true
 }
 
-fn ipv6_form(p: &[u8], size: usize) -> bool
+// The fixed header of IPv6 likewise.
+fn ipv6_fixed(p: &[u8], size: usize) -> bool
     requires { ⌜ min maxHeader size ≤ length (now p) ⌝ }
-    ensures { λ r. ⌜ Tells form6 (now (p .entry)) size r ⌝ }
+    ensures { λ r. ⌜ Tells fixed6 (now (p .entry)) size r × (r ≡ true → size ≤ maxPayload + 40) ⌝ }
 {
     if size < 40 {
         return false;
@@ -136,20 +148,6 @@ fn address6(packet: &[u8], at: usize) -> Address
     }
 }
 
-// The protocol that grants are about.
-pub fn protocol(packet: &[u8]) -> u8
-    ensures { λ r. ⌜ r ≡ protocolOf (now (packet .entry)) ⌝ }
-{
-    let v = version(packet);
-    if v == 4 {
-        return byte_at(packet, 9);
-    }
-    if v == 6 {
-        return byte_at(packet, 6);
-    }
-    0
-}
-
 // The protocol that checksums count.
 pub fn protocol_byte(packet: &[u8]) -> u8
     ensures { λ r. ⌜ r ≡ protocolByte (now (packet .entry)) ⌝ }
@@ -178,16 +176,15 @@ pub fn hops(packet: &[u8]) -> u8
     byte_at(packet, at)
 }
 
-pub fn is_icmp(packet: &[u8]) -> bool
-    ensures { λ r. ⌜ r ≡ isIcmp (now (packet .entry)) ⌝ }
+// Whether a protocol is ICMP in a version.
+pub fn is_icmp(version: u8, protocol: u8) -> bool
+    ensures { λ r. ⌜ r ≡ icmpIn version protocol ⌝ }
 {
-    let v = version(packet);
-    let p = protocol(packet);
-    if v == 4 {
-        return p == 1;
+    if version == 4 {
+        return protocol == 1;
     }
-    if v == 6 {
-        return p == 58;
+    if version == 6 {
+        return protocol == 58;
     }
     false
 }

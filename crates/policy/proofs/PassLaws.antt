@@ -1,16 +1,16 @@
 -- The verdict on a flow: what lowering keeps, the two ends exchanged, and ICMP. Assumes nothing.
 use Prim.Native.Nat.{ℕ, _≤_}
 use mathlib.Core.Bool.{Bool, true, false, _||_}
-use mathlib.Core.Path.{_≡_, refl, sym}
+use mathlib.Core.Path.{_≡_, refl, sym, _∙_}
 use mathlib.Core.List.{List, [], _∷_, _++_}
 use lib.Dec.{eqb}
 use Rattle.answer.proofs.Tests.{and-both}
 use Rattle.octets.specs.Parts.{part}
 use Rattle.inet.specs.declared.Address.{Address}
-use Rattle.inet.specs.Packet.{versionOf, sourceOf, destinationOf, protocolOf, isIcmp, lowered}
+use Rattle.inet.specs.Packet.{versionOf, sourceOf, destinationOf, protocolOf, icmpIn, isIcmp, lowered}
 use Rattle.inet.specs.Fronts.{Addressed}
 use Rattle.inet.proofs.HeaderLaws.{isIcmp-6}
-use Rattle.inet.proofs.AddressLaws.{joined-source, joined-destination, joined-protocol, joined-icmp}
+use Rattle.inet.proofs.AddressLaws.{version-same, joined-source, joined-destination}
 use Rattle.inet.proofs.LoweredLaws.{lowered-sourceOf, lowered-destinationOf, lowered-protocolOf, lowered-isIcmp}
 use Rattle.lists.specs.declared.RouteRange.{RouteRange}
 use Rattle.octets.specs.Scan.{anyOf}
@@ -18,29 +18,29 @@ use Rattle.lists.specs.Words.{maxAddresses, addressWords, routeWords, countOf, 
 use Rattle.lists.proofs.ListScans.{entries-within}
 use Rattle.policy.specs.declared.Flow.{Flow}
 use Rattle.policy.specs.Granted.{flowOf, covers, holds, admits, Side, sideIn, soundSide, granted, passes, reversed}
-use Rattle.policy.specs.Parts.{grantedBy}
+use Rattle.policy.specs.Parts.{flowWith, grantedBy}
 
 -- ---- flows
 
-pub flow-parts : (p : List ℕ) {s d : Address} {n : ℕ} {i : Bool} → s ≡ sourceOf p → d ≡ destinationOf p → n ≡ protocolOf p → i ≡ isIcmp p
-    → _≡_ {A = Flow} (record { source = s; destination = d; protocol = n; icmp = i }) (flowOf p)
-unfolding flowOf
-flow-parts p e f g h = rw (e, f, g, h)
+pub flow-parts : (p : List ℕ) (n : ℕ) {s d : Address} {v : ℕ} {i : Bool} → s ≡ sourceOf p → d ≡ destinationOf p → v ≡ versionOf p → i ≡ icmpIn v n
+    → _≡_ {A = Flow} (record { source = s; destination = d; protocol = n; icmp = i }) (flowWith n p)
+unfolding flowWith
+flow-parts p n e f g h = rw (e, f, h, g)
 
 -- lowering a packet keeps all that its verdict depends on
 pub flow-lowered : (p : List ℕ) → flowOf (lowered p) ≡ flowOf p
 unfolding flowOf
 flow-lowered p = rw (lowered-sourceOf p, lowered-destinationOf p, lowered-protocolOf p, lowered-isIcmp p)
 
--- all of it stands in the front
-pub flow-joined : (front tail : List ℕ) → Addressed front → flowOf (front ++ tail) ≡ flowOf front
-unfolding flowOf
-flow-joined front tail a =
-    rw (joined-source front tail a, joined-destination front tail a, joined-protocol front tail a, joined-icmp front tail a)
+-- a packet that carries what it does: all else stands in its front
+pub flow-joined : (front tail : List ℕ) → Addressed front → {n : ℕ} → n ≡ protocolOf (front ++ tail) → flowWith n front ≡ flowOf (front ++ tail)
+unfolding flowOf flowWith isIcmp
+flow-joined front tail a e =
+    rw (e, joined-source front tail a, joined-destination front tail a, version-same front tail a)
 
 -- protocol 1 is not ICMP in IPv6
 pub icmp-6-not-1 : (p : List ℕ) → versionOf p ≡ 6 → protocolOf p ≡ 1 → isIcmp p ≡ false
-icmp-6-not-1 p v e = sym (isIcmp-6 p v (sym e))
+icmp-6-not-1 p v e = sym (isIcmp-6 p v) ∙ rw e
 
 -- ---- the verdict
 

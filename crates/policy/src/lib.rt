@@ -12,8 +12,8 @@ ghost use mathlib.Core.Bool.{true};
 ghost use Prim.Native.Nat.{_≤_};
 ghost use lib.ListN.{length};
 ghost use Rattle.inet.specs.Fronts.{Addressed};
-ghost use Rattle.policy.specs.Granted.{flowOf, sideWords, sideIn, soundSide, passes};
-ghost use Rattle.policy.specs.Parts.{address, grantedBy};
+ghost use Rattle.policy.specs.Granted.{sideWords, sideIn, soundSide, passes};
+ghost use Rattle.policy.specs.Parts.{flowWith, address, grantedBy};
 
 // The words of a side: its addresses, then its routes.
 pub const SIDE_WORDS: usize = ADDRESS_WORDS + ROUTE_WORDS;
@@ -27,15 +27,15 @@ pub struct Flow {
     pub icmp: bool,
 }
 
-// What a packet says, by its front.
-pub fn flow_of(packet: &[u8]) -> Flow
+// What a packet that carries a protocol says, by its front.
+pub fn flow_of(packet: &[u8], protocol: u8) -> Flow
     requires { ⌜ Addressed (now packet) ⌝ }
-    ensures { λ r. ⌜ r ≡ flowOf (now (packet .entry)) ⌝ }
+    ensures { λ r. ⌜ r ≡ flowWith protocol (now (packet .entry)) ⌝ }
 {
     let source = inet::packet::source(packet);
     let destination = inet::packet::destination(packet);
-    let protocol = inet::packet::protocol(packet);
-    let icmp = inet::packet::is_icmp(packet);
+    let version = inet::packet::version(packet);
+    let icmp = inet::packet::is_icmp(version, protocol);
     Flow {
         source,
         destination,

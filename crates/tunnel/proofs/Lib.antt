@@ -1,7 +1,7 @@
 pub mod SendingLaws
 pub mod SendingSteps
 pub mod ReceivingLaws
-pub mod GrantedLaws
+pub mod JudgingLaws
 pub mod ReceivingOpening
 pub mod ReceivingSteps
 pub mod Agreement

@@ -1,7 +1,7 @@
 -- What the verdict on receiving says, both ways. Assumes nothing.
 use Prim.Native.Nat.{ℕ, _≤_}
 use mathlib.Core.Path.{_≡_, refl, ap, _∙_}
-use mathlib.Core.Bool.{Bool, true, not}
+use mathlib.Core.Bool.{true, not}
 use mathlib.Core.List.{List}
 use native.Mathlib.Omega.{arith}
 use borrow.Author.Tests.{ltb-false, le-ltb, not-false}
@@ -13,8 +13,6 @@ use Rattle.answer.specs.declared.Verdict.the-variants.{Go, Stop}
 use Rattle.answer.specs.Verdict.{firstOf, _then_}
 use Rattle.answer.proofs.Tables.{go-test, go-rest, then-first, then-second}
 use Rattle.inet.specs.Packet.{form}
-use Rattle.policy.specs.declared.Flow.{Flow}
-use Rattle.policy.specs.Granted.{flowOf, passes}
 use Rattle.state.specs.State.{State, soundState, receivingGranted}
 use Rattle.template.specs.Datagrams.{Opened, refused, packet, opened}
 use Rattle.tunnel.specs.Tunnel.{receiveRoom, receiveTests, packetTests, openedVerdict, openedBytes, receiveVerdict, receivedBytes}
@@ -37,11 +35,6 @@ module _ (s : State) (n : ℕ) where
   pub go-state : StateGo s n → firstOf (receiveTests s n) ≡ Go
   unfolding receiveTests
   go-state g = rw (le-ltb n receiveRoom (g .room), g .sound)
-
--- what the code asks of the policy
-pub receiving-by : (s : State) (p : List ℕ) {f : Flow} {b : Bool} → f ≡ flowOf p → b ≡ passes (s .given) (s .received) f → b ≡ receivingGranted s p
-unfolding receivingGranted
-receiving-by s p e q = q ∙ ap (passes (s .given) (s .received)) e
 
 -- the tests of a packet
 module _ (s : State) (q : List ℕ) where

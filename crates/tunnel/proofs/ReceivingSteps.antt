@@ -7,20 +7,19 @@ use borrow.Author.Tests.{lt-ltb, le-ltb}
 use lib.ListN.{length, take, drop}
 use lib.Seq.{take-length}
 use Rattle.answer.specs.declared.Refusal.{Refusal}
-use Rattle.answer.specs.declared.Refusal.the-variants.{BrokenState, BadForm, NotGranted, NoRoom}
+use Rattle.answer.specs.declared.Refusal.the-variants.{BrokenState, NoRoom}
 use Rattle.answer.specs.declared.Answer.{Answer}
 use Rattle.answer.specs.declared.Answer.the-variants.{Done, Refused}
+use Rattle.answer.specs.declared.Verdict.{Verdict}
 use Rattle.answer.specs.declared.Verdict.the-variants.{Go, Stop}
-use Rattle.answer.specs.Verdict.{firstOf, Writes}
-use Rattle.inet.specs.Packet.{form}
-use Rattle.inet.specs.Fronts.{Addressed}
-use Rattle.policy.specs.Granted.{passes}
-use Rattle.policy.proofs.PassLaws.{flow-joined}
-use Rattle.state.specs.State.{State, soundState, receivingGranted, stateIn}
-use Rattle.template.specs.Datagrams.{Opened, refused}
+use Rattle.answer.specs.Verdict.{firstOf}
+use Rattle.state.specs.State.{State, soundState, stateIn}
+use Rattle.output.specs.Places.{Put}
+use Rattle.template.specs.Datagrams.{Opened, refused, packet}
 use Rattle.tunnel.specs.Tunnel.{receiveRoom, receiveTests, packetTests, receivedBytes, Receives}
 use Rattle.tunnel.specs.Opening.{openedIn, Takes}
-use Rattle.tunnel.proofs.ReceivingLaws.{StateGo, facts-packet, receive-opened}
+use Rattle.tunnel.proofs.SendingSteps.{writes-stop, writes-go}
+use Rattle.tunnel.proofs.ReceivingLaws.{StateGo, receive-opened}
 
 -- ---- the state
 
@@ -38,31 +37,23 @@ module _ (s : State) (n : ℕ) where
     unfolding receiveTests
     state-sound f = rw (le-ltb n receiveRoom h, sym e ∙ f)
 
--- ---- the packet
+-- ---- the packet that was judged
 
-module _ (s : State) (q : List ℕ) {b : Bool} (e : b ≡ form q) where
-  pub packet-bad : b ≡ false → firstOf (packetTests s q) ≡ Stop BadForm
-  unfolding packetTests
-  packet-bad f = rw (sym e ∙ f)
+module _ (w q : List ℕ) {v : Verdict} {out : List ℕ} where
+  pub judged-stop : v ≡ firstOf (packetTests (stateIn w) q) → {r : Refusal} → v ≡ Stop r → Takes w (packet q) out (Refused r) out
+  judged-stop e f = record { writes = writes-stop (sym e ∙ f) }
 
-  module _ (f : b ≡ true) {t : Bool} (p : t ≡ receivingGranted s q) where
-    pub packet-denied : t ≡ false → firstOf (packetTests s q) ≡ Stop NotGranted
-    unfolding packetTests
-    packet-denied k = rw (sym e ∙ f, sym p ∙ k)
+  -- it is put to the front of out
+  pub judged-put : v ≡ firstOf (packetTests (stateIn w) q) → v ≡ Go → {out′ : List ℕ} {n : ℕ} → Put q 0 out n out′ → Takes w (packet q) out (Done n) out′
+  judged-put e f k = record { writes = writes-go (sym e ∙ f) k }
 
-    -- the packet copied to the front of out
-    pub packet-copied : t ≡ true → (out : List ℕ) {out′ : List ℕ} {n : ℕ} → n ≡ length q → out′ ≡ take (length q) q ++ drop (length q) out
-        → Writes (firstOf (packetTests s q)) q out (Done n) out′
-    packet-copied k out l w =
-        rw (facts-packet s q (sym e ∙ f) (sym p ∙ k))
-        (record { answer = ap Done l; output = w ∙ ap (λ (x : List ℕ). x ++ drop (length q) out) (take-length q) })
-
--- ---- a packet in two parts
-
--- the front grants what the packet does
-pub granted-joined : (s : State) (front tail : List ℕ) → Addressed front → {b : Bool} → b ≡ receivingGranted s front → b ≡ receivingGranted s (front ++ tail)
-unfolding receivingGranted
-granted-joined s front tail a e = e ∙ ap (passes (s .given) (s .received)) (sym (flow-joined front tail a))
+  -- or copied there
+  pub judged-copied : v ≡ firstOf (packetTests (stateIn w) q) → v ≡ Go → {out′ : List ℕ} {n : ℕ} → n ≡ length q → out′ ≡ take (length q) q ++ drop (length q) out
+      → Takes w (packet q) out (Done n) out′
+  judged-copied e f l k =
+      record {
+        writes = rw (sym e ∙ f) (record { answer = ap Done l; output = k ∙ ap (λ (x : List ℕ). x ++ drop (length q) out) (take-length q) });
+      }
 
 -- ---- what was opened
 

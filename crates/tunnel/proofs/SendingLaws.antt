@@ -1,7 +1,7 @@
 -- What a `Go` of sending says, both ways. Assumes nothing.
 use Prim.Native.Nat.{ℕ, _≤_}
-use mathlib.Core.Path.{_≡_, ap, _∙_}
-use mathlib.Core.Bool.{Bool, true, false}
+use mathlib.Core.Path.{_≡_}
+use mathlib.Core.Bool.{true, false}
 use mathlib.Core.List.{List}
 use borrow.Author.Tests.{ltb-false, le-ltb, not-false}
 use lib.Dec.{lit<}
@@ -11,8 +11,6 @@ use Rattle.answer.specs.declared.Verdict.the-variants.{Go}
 use Rattle.answer.specs.Verdict.{_⇒_}
 use Rattle.answer.proofs.Tables.{go-at}
 use Rattle.inet.specs.Packet as Packet
-use Rattle.policy.specs.declared.Flow.{Flow}
-use Rattle.policy.specs.Granted.{flowOf, passes}
 use Rattle.state.specs.State.{State, soundState, sendingGranted}
 use Rattle.template.specs.Datagrams.{maxPacket}
 use Rattle.tunnel.specs.Tunnel.{sendRoom, sendTests, sendVerdict}
@@ -25,11 +23,6 @@ pub record SendGo (s : State) (p : List ℕ) (n : ℕ) : Type 0 where
   pub form : Packet.form p ≡ true
   pub hops : 2 ≤ Packet.hopsOf p
   pub granted : sendingGranted s p ≡ true
-
--- what the code asks of the policy
-pub sending-by : (s : State) (p : List ℕ) {f : Flow} {b : Bool} → f ≡ flowOf p → b ≡ passes (s .received) (s .given) f → b ≡ sendingGranted s p
-unfolding sendingGranted
-sending-by s p e q = q ∙ ap (passes (s .received) (s .given)) e
 
 module _ (s : State) (p : List ℕ) (n : ℕ) where
   pub send-go : sendVerdict s p n ≡ Go → SendGo s p n

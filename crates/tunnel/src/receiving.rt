@@ -1,11 +1,9 @@
 // From a datagram to a packet.
 use super::RECEIVE_ROOM;
-use super::granted::granted;
+use super::judging::judge;
 use answer::Answer;
 use answer::Refusal;
 use answer::Verdict;
-use inet::packet::form;
-use inet::packet::front_form;
 use octets::least;
 use output::put_bytes;
 use output::put_many;
@@ -150,15 +148,15 @@ fn take_joined<'a>(state: &[u64], front: &'a [u8], tail: &'a [u8], out: &mut [u8
     requires { ⌜ Joinable (now state) (now front) (now tail) (now out) ⌝ }
     ensures { λ r. ⌜ Takes (now (state .entry)) (packet (now (front .entry) ++ now (tail .entry))) (now (out .entry)) r (now (out .exit)) ⌝ }
 {
-    if !front_form(front, front.len() + tail.len()) {
-        return Answer::Refused(Refusal::BadForm);
+    let v = judge(state, front, tail, false);
+    match v {
+        Verdict::Stop(why) => Answer::Refused(why),
+        Verdict::Go => {
+            let n = put_bytes(out, 0, front);
+            let end = put_many(out, n, tail);
+            Answer::Done(end)
+        }
     }
-    if !granted(state, front, false) {
-        return Answer::Refused(Refusal::NotGranted);
-    }
-    let n = put_bytes(out, 0, front);
-    let end = put_many(out, n, tail);
-    Answer::Done(end)
 }
 
 // Judges a packet, and copies it to the front of out.
@@ -167,12 +165,13 @@ fn take_in(state: &[u64], inner: &[u8], out: &mut [u8]) -> Answer
     requires { ⌜ Takable (now state) (now inner) (now out) ⌝ }
     ensures { λ r. ⌜ Takes (now (state .entry)) (packet (now (inner .entry))) (now (out .entry)) r (now (out .exit)) ⌝ }
 {
-    if !form(inner) {
-        return Answer::Refused(Refusal::BadForm);
+    let size = inner.len();
+    let v = judge(state, inner, &inner[size..], false);
+    match v {
+        Verdict::Stop(why) => Answer::Refused(why),
+        Verdict::Go => {
+            let n = octets::copy(inner, out);
+            Answer::Done(n)
+        }
     }
-    if !granted(state, inner, false) {
-        return Answer::Refused(Refusal::NotGranted);
-    }
-    let n = octets::copy(inner, out);
-    Answer::Done(n)
 }

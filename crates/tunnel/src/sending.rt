@@ -1,12 +1,10 @@
 // From a packet to a datagram.
 use super::SEND_ROOM;
-use super::granted::granted;
+use super::judging::judge;
 use answer::Answer;
 use answer::Refusal;
 use answer::Verdict;
 use inet::lower::lower_into;
-use inet::packet::form;
-use inet::packet::hops;
 use octets::least;
 use state::STATE_WORDS;
 use state::STORE_AT;
@@ -62,16 +60,13 @@ fn send_verdict(state: &[u64], packet: &[u8], room: usize) -> Verdict
     if MAX_PACKET < packet.len() {
         return Verdict::Stop(Refusal::PacketTooLong);
     }
-    if !form(packet) {
-        return Verdict::Stop(Refusal::BadForm);
+    let n = packet.len();
+    let v = judge(state, packet, &packet[n..], true);
+    // taken apart: handed on as a whole, its two bytes would be read at once, of which a `Go` writes one, and the processor waits for such a read
+    match v {
+        Verdict::Stop(why) => Verdict::Stop(why),
+        Verdict::Go => Verdict::Go,
     }
-    if hops(packet) < 2 {
-        return Verdict::Stop(Refusal::HopLimit);
-    }
-    if !granted(state, packet, true) {
-        return Verdict::Stop(Refusal::NotGranted);
-    }
-    Verdict::Go
 }
 
 // Writes the datagram of the lowered packet. A table of no templates needs no search.

@@ -5,7 +5,7 @@ use mathlib.Core.List.{List, [], _∷_}
 use lib.ListN.{replicate, take}
 use Rattle.answer.specs.declared.Verdict.the-variants.{Go}
 use Rattle.varint.specs.Numbers.{encode, readNumber}
-use Rattle.inet.specs.Packet.{form, form4, form6}
+use Rattle.inet.specs.Packet.{form, form4, fixed6, form6}
 use Rattle.lists.specs.Rules.{soundEntry}
 use Rattle.lists.specs.Words.{entriesOf, rangesOf, soundAddresses, soundRoutes}
 use Rattle.capsule.specs.Elements.{parse, elementsIn}
@@ -94,7 +94,7 @@ requested = refl
 
 -- no packet is of bad form, and no datagram is cut
 no-packet : outcome packetKind fresh [] ≡ leaving (0x54 ∷ 0x0a ∷ 0x00 ∷ 0x00 ∷ []) fresh
-unfolding outcome sentAnswer sendVerdict sendTests soundState soundSide soundAddresses soundRoutes soundTemplates planFault entriesOf rangesOf templatesOf form form4 form6 fresh
+unfolding outcome sentAnswer sendVerdict sendTests soundState soundSide soundAddresses soundRoutes soundTemplates planFault entriesOf rangesOf templatesOf form form4 form6 fixed6 fresh
 no-packet = refl
 
 no-datagram : outcome datagramKind fresh [] ≡ leaving (0x44 ∷ 0x0e ∷ 0x00 ∷ 0x00 ∷ []) fresh

@@ -10,16 +10,16 @@ source-requires c κs = search needs
 destination-requires : tie.Need-destination-requires
 destination-requires c κs = search needs
 
-protocol-requires : tie.Need-protocol-requires
-protocol-requires c κs = search needs
+version-requires : tie.Need-version-requires
+version-requires c κs = search needs
 
 is-icmp-requires : tie.Need-is-icmp-requires
 is-icmp-requires c κs = search needs
 
 returns : tie.Need-returns
-returns c = flow-parts _ (c .before .before .before .source .ensures) (c .before .before .destination .ensures) (c .before .protocol .ensures) (c .is-icmp .ensures)
+returns c = flow-parts _ _ (c .before .before .before .source .ensures) (c .before .before .destination .ensures) (c .before .version .ensures .0) (c .is-icmp .ensures)
 
 pub flow-of-spec : {M : Type 1} → statement M
 flow-of-spec =
     tie.close
-    (tie.spec source-requires destination-requires protocol-requires is-icmp-requires returns)
+    (tie.spec source-requires destination-requires version-requires is-icmp-requires returns)

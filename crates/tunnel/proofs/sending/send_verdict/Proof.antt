@@ -1,5 +1,5 @@
--- The code walks down the table `sendTests`: past the first k tests the verdict is that of the rest of the table, a `return` stops there,
--- and the end is `Go`. Assumes nothing.
+-- The code walks down the table `sendTests`: past the first k tests the verdict is that of the rest of the table, and a `return` stops there. The judge has the last
+-- three tests. Assumes nothing.
 use Prim.Native.Nat.{ℕ}
 use mathlib.Core.Path.{_≡_, sym, ap, _∙_}
 use mathlib.Core.Bool.{true, not}
@@ -10,12 +10,12 @@ use lib.ListN.{length, drop}
 use Rattle.answer.specs.Verdict.{Test, firstOf}
 use Rattle.answer.proofs.Tables.{stops, passes}
 use Rattle.lists.proofs.Calls.{called-true, called-false}
-use Rattle.inet.specs.Packet.{form, hopsOf}
-use Rattle.inet.proofs.FormFacts.{form-facts}
-use Rattle.inet.proofs.AddressLaws.{form-addressed}
+use Rattle.inet.proofs.CarriedLaws.{alone, alone-parted}
 use Rattle.state.specs.State.{State, soundState, stateIn}
 use Rattle.template.specs.Datagrams.{maxPacket}
 use Rattle.tunnel.specs.Tunnel.{sendRoom, sendTests, sendVerdict}
+use Rattle.tunnel.specs.Judging.{judgeTests}
+use Rattle.tunnel.proofs.JudgingLaws.{judged-sent}
 use borrow.Author.Needs.{needs}
 use Rattle.tunnel.proofs.sending.send_verdict.Statement.{statement}
 use Rattle.tunnel.proofs.sending.send_verdict.Tie as tie
@@ -43,12 +43,6 @@ S2 c = S1 (c .before .before)
 abbrev S3 : tie.Else3 → tie.Start
 S3 c = S2 (c .before)
 
-abbrev S4 : tie.Else4 → tie.Start
-S4 c = S3 (c .before .before)
-
-abbrev S5 : tie.Else5 → tie.Start
-S5 c = S4 (c .before .before)
-
 past1 : (c : tie.Else1) → Past 1 (S1 c)
 unfolding sendTests
 past1 c = passes _ _ _ (le-ltb (S1 c .args .room) sendRoom (omega arith))
@@ -63,17 +57,6 @@ past2 c = past1 (c .before .before) ∙ passes _ _ _ (ap not (sound c))
 past3 : (c : tie.Else3) → Past 3 (S3 c)
 unfolding sendTests
 past3 c = past2 (c .before) ∙ passes _ _ _ (le-ltb maxPacket (length (P (S3 c))) (omega arith))
-
-formed : (c : tie.Else4) → form (P (S4 c)) ≡ true
-formed c = called-true (c .before .form .ensures) (c .if4 .left)
-
-past4 : (c : tie.Else4) → Past 4 (S4 c)
-unfolding sendTests
-past4 c = past3 (c .before .before) ∙ passes _ _ _ (ap not (formed c))
-
-past5 : (c : tie.Else5) → Past 5 (S5 c)
-unfolding sendTests
-past5 c = past4 (c .before .before) ∙ passes _ _ _ (le-ltb (hopsOf (P (S5 c))) 2 (omega (arith, c .before .hops .ensures)))
 
 returns : tie.Need-returns
 unfolding sendVerdict sendTests
@@ -90,32 +73,41 @@ returns-3 : tie.Need-returns-3
 unfolding sendVerdict sendTests
 returns-3 c = sym (past2 (c .before) ∙ stops _ _ _ (lt-ltb maxPacket (length (P (S2 (c .before)))) (omega arith)))
 
-form-requires : tie.Need-form-requires
-form-requires c κs = search needs
+sub-judge : tie.Need-sub-judge
+sub-judge c = search needs
+
+part-judge-start : tie.Need-part-judge-start
+part-judge-start c = search needs
+
+part-judge-end : tie.Need-part-judge-end
+part-judge-end c = search needs
+
+judge-requires : tie.Need-judge-requires
+judge-requires c κs =
+    let e = c .before in
+    (search needs, (sound (e .before), alone-parted (P (S3 e)) (omega arith)))
+
+-- the judge's verdict is that of the whole table
+judged : (c : tie.After-judge) → c .judge .result ≡ sendVerdict (S (S3 (c .before .before))) (P (S3 (c .before .before))) (S3 (c .before .before) .args .room)
+unfolding sendVerdict
+judged c =
+    let e = c .before .before in
+    c .judge .ensures
+    ∙ ap (λ (q : List ℕ). firstOf (judgeTests true (S (S3 e)) q)) (alone (P (S3 e)))
+    ∙ judged-sent (S (S3 e)) (P (S3 e)) (S3 e .args .room)
+    ∙ sym (past3 e)
+
+enum-known-v : tie.Need-enum-known-v
+enum-known-v c = search needs
+
+enum-told : tie.Need-enum-told
+enum-told c = search needs
 
 returns-4 : tie.Need-returns-4
-unfolding sendVerdict sendTests
-returns-4 c = sym (past3 (c .before .before) ∙ stops _ _ _ (ap not (called-false (c .before .form .ensures) (c .if4 .taken))))
-
-hops-requires : tie.Need-hops-requires
-hops-requires c κs = search needs
+returns-4 c = sym (c .before .v .given .1) ∙ judged (c .before .before .before)
 
 returns-5 : tie.Need-returns-5
-unfolding sendVerdict sendTests
-returns-5 c =
-    let e = c .before .before in
-    sym (past4 e ∙ stops _ _ _ (lt-ltb (hopsOf (P (S4 e))) 2 (omega (arith, c .before .hops .ensures))))
-
-granted-requires : tie.Need-granted-requires
-granted-requires c κs = (search needs, (sound (c .before .before .before .before .before), form-addressed _ (form-facts _ (formed (c .before .before)))))
-
-returns-6 : tie.Need-returns-6
-unfolding sendVerdict sendTests
-returns-6 c = sym (past5 (c .before .before) ∙ stops _ _ _ (ap not (called-false (c .before .granted .ensures) (c .if6 .taken))))
-
-returns-7 : tie.Need-returns-7
-unfolding sendVerdict sendTests
-returns-7 c = sym (past5 (c .before .before) ∙ passes _ _ _ (ap not (called-true (c .before .granted .ensures) (c .if6 .left))))
+returns-5 c = sym (c .enum-told .given .1) ∙ judged (c .before .before)
 
 pub send-verdict-spec : {M : Type 1} → statement M
 send-verdict-spec =
@@ -125,10 +117,11 @@ send-verdict-spec =
     state-sound-requires
     returns-2
     returns-3
-    form-requires
+    sub-judge
+    part-judge-start
+    part-judge-end
+    judge-requires
+    enum-known-v
+    enum-told
     returns-4
-    hops-requires
-    returns-5
-    granted-requires
-    returns-6
-    returns-7)
+    returns-5)

@@ -5,9 +5,9 @@ use mathlib.Core.Logic.{⊎-elim}
 use native.Mathlib.Omega.{arith}
 use Rattle.policy.specs.Granted.{sideWords}
 use Rattle.state.specs.State.{receivedAt, givenAt}
-use Rattle.tunnel.proofs.GrantedLaws.{firstAt, secondAt, picked, first-within, second-within, words-enough, first-sound, second-sound, granted-by}
-use Rattle.tunnel.proofs.granted.granted.Statement.{statement}
-use Rattle.tunnel.proofs.granted.granted.Tie as tie
+use Rattle.tunnel.proofs.JudgingLaws.{firstAt, secondAt, picked, first-within, second-within, words-enough, first-sound, second-sound, granted-by}
+use Rattle.tunnel.proofs.judging.granted.Statement.{statement}
+use Rattle.tunnel.proofs.judging.granted.Tie as tie
 
 -- the two places, by the way
 first-at : (c : tie.Joined1) → c .if1 .first ≡ firstAt (c .before .before .before .args .sending)
@@ -67,7 +67,7 @@ passes-requires c κs =
 returns : tie.Need-returns
 returns c =
     let a = c .before .before .before .before .before .before .before .before .before .before .args in
-    granted-by (a .state .now) (a .packet .now) (a .sending) (first-at (c .before .before .before .before .before .before .before)) (second-at (c .before .before .before .before .before .before)) (c .before .flow-of .ensures) (c .passes .ensures)
+    granted-by (a .state .now) (a .sending) (first-at (c .before .before .before .before .before .before .before)) (second-at (c .before .before .before .before .before .before)) (c .before .flow-of .ensures) (c .passes .ensures)
 
 pub granted-spec : {M : Type 1} → statement M
 granted-spec =
