@@ -5,6 +5,14 @@ pub const MAX_PACKET: usize = 1500;
 
 const UDP: u8 = 17;
 
+// IPv6 headers that may stand before the one a packet is about.
+const HOP_BY_HOP: u8 = 0;
+const ROUTING: u8 = 43;
+const FRAGMENT: u8 = 44;
+const AUTHENTICATION: u8 = 51;
+const DESTINATION: u8 = 60;
+const MOBILITY: u8 = 135;
+
 /// Bits of an address; none for a version other than 4 and 6.
 #[inline]
 pub fn width(version: u8) -> Option<u32> {
@@ -57,6 +65,7 @@ pub fn put_word(bytes: &mut [u8], at: usize, word: u16) {
 #[derive(Clone, Copy, Debug, PartialEq, Eq)]
 pub struct Header {
     pub version: u8,
+    /// Of IPv6 the number behind the chain of headers.
     pub protocol: u8,
     pub hop_count: u8,
     pub source: u128,
@@ -64,12 +73,12 @@ pub struct Header {
 }
 
 impl Header {
-    /// The header of a packet of `length` bytes, of which `front` has at least the first 60; none where the form is bad.
+    /// The header of the packet `front` followed by `tail`, where `front` has at least the first 60 bytes, or all; none where the form is bad.
     #[inline]
-    pub fn read(front: &[u8], length: usize) -> Option<Header> {
+    pub fn read(front: &[u8], tail: &[u8]) -> Option<Header> {
         match front.first()? >> 4 {
-            4 => Self::read_ipv4(front, length),
-            6 => Self::read_ipv6(front, length),
+            4 => Self::read_ipv4(front, front.len() + tail.len()),
+            6 => Self::read_ipv6(front, tail),
             _ => None,
         }
     }
@@ -92,14 +101,15 @@ impl Header {
         })
     }
 
-    fn read_ipv6(front: &[u8], length: usize) -> Option<Header> {
-        let fixed: &[u8; 40] = front.first_chunk()?;
-        if usize::from(word_at(fixed, 4)) + 40 != length {
+    fn read_ipv6(front: &[u8], tail: &[u8]) -> Option<Header> {
+        let (fixed, payload) = front.split_first_chunk::<40>()?;
+        if usize::from(word_at(fixed, 4)) != payload.len() + tail.len() {
             return None;
         }
+        let first = fixed[6];
         Some(Header {
             version: 6,
-            protocol: fixed[6],
+            protocol: if is_skipped(first) { behind_chain(first, payload, tail)? } else { first },
             hop_count: fixed[7],
             source: ipv6_at(fixed, 8),
             destination: ipv6_at(fixed, 24),
@@ -111,6 +121,51 @@ impl Header {
     pub fn is_icmp(&self) -> bool {
         matches!((self.version, self.protocol), (4, 1) | (6, 58))
     }
+}
+
+/// Whether a header with this number is one of those before the protocol.
+#[inline]
+fn is_skipped(number: u8) -> bool {
+    matches!(number, HOP_BY_HOP | ROUTING | FRAGMENT | AUTHENTICATION | DESTINATION | MOBILITY)
+}
+
+/// The number behind the chain of IPv6 headers that `first` begins and that stands at the front of `near` followed by `far`; none where one
+/// of them is not there whole. Not a part of its caller, so that packets without a chain do not pay for it.
+#[inline(never)]
+fn behind_chain<'a>(first: u8, mut near: &'a [u8], mut far: &'a [u8]) -> Option<u8> {
+    let mut number = first;
+    while is_skipped(number) {
+        let [next, length, high, low] = match near.first_chunk() {
+            Some(start) => *start,
+            None => first_four(near, far)?,
+        };
+        let size = match number {
+            FRAGMENT => 8,
+            AUTHENTICATION => 8 + 4 * usize::from(length),
+            _ => 8 + 8 * usize::from(length),
+        };
+        near = match near.get(size..) {
+            Some(rest) => rest,
+            None => {
+                let rest = far.get(size - near.len()..)?;
+                far = &[];
+                rest
+            }
+        };
+        // Of a later fragment nothing more is known.
+        if number == FRAGMENT && u16::from_be_bytes([high, low]) >> 3 != 0 {
+            return Some(FRAGMENT);
+        }
+        number = next;
+    }
+    Some(number)
+}
+
+/// The first bytes of `near` followed by `far`.
+#[cold]
+fn first_four(near: &[u8], far: &[u8]) -> Option<[u8; 4]> {
+    let mut bytes = near.iter().chain(far).copied();
+    Some([bytes.next()?, bytes.next()?, bytes.next()?, bytes.next()?])
 }
 
 fn ipv4_at(header: &[u8; 20], at: usize) -> u128 {

@@ -22,7 +22,7 @@ pub fn send(grants: &Grants, plan: &Plan, packet: &[u8], out: &mut [u8]) -> Resu
     if packet.len() > MAX_PACKET {
         return Err(Refusal::PacketTooLong);
     }
-    let header = Header::read(packet, packet.len()).ok_or(Refusal::BadForm)?;
+    let header = Header::read(packet, &[]).ok_or(Refusal::BadForm)?;
     if header.hop_count <= 1 {
         return Err(Refusal::HopCountSpent);
     }
@@ -129,7 +129,7 @@ fn deliver(grants: &Grants, front: &[u8], tail: &[u8], out: &mut [u8]) -> Result
     if length > MAX_PACKET {
         return Err(Refusal::PacketTooLong);
     }
-    let header = Header::read(front, length).ok_or(Refusal::BadForm)?;
+    let header = Header::read(front, tail).ok_or(Refusal::BadForm)?;
     if !grants.allow_receiving(&header) {
         return Err(Refusal::NotGranted);
     }
