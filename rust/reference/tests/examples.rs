@@ -1,4 +1,4 @@
-//! The drivers' examples of the paper, and the numbers of RFC 9000 appendix A.1.
+//! The drivers' examples of the paper, the numbers of RFC 9000 appendix A.1, and chains of IPv6 headers.
 
 use whapirohi_reference::capsule::{CAPSULE_ROOM, MAX_VALUE};
 use whapirohi_reference::list::{MAX_ADDRESSES, MAX_RANGES};
@@ -311,4 +311,359 @@ fn broken_state_is_9() {
     assert_eq!(broken.read_capsule(&Plan::default(), &[], 0), Err(Refusal::BrokenState));
     assert_eq!(broken.write_assign(&Plan::default(), &list(&[]), &mut [0; CAPSULE_ROOM]), Err(Refusal::BrokenState));
     assert_eq!(broken.write_assign(&Plan::default(), &list(&[]), &mut [0; CAPSULE_ROOM - 1]), Err(Refusal::NoRoom));
+}
+
+/// A packet in hex: its chain of IPv6 headers ends at `end`, and it is of `protocol`.
+struct Chained {
+    packet: &'static str,
+    end: usize,
+    protocol: u8,
+}
+
+const ICMP_BEHIND_HOP_BY_HOP: Chained = Chained {
+    packet: concat!(
+        "60 00 00 00 00 10 00 40", // version 6, payload of 16 bytes, next is 0, hop limit 64
+        "20010DB8 00000000 00000000 00000001", // from 2001:db8::1
+        "20010DB8 00000000 00000000 00000002", // to 2001:db8::2
+        "3A 00 01 04 00 00 00 00", // hop-by-hop options: next is 58, 8 bytes, PadN of 4
+        "80 00 24 40 00 07 00 01", // ICMPv6 echo request
+    ),
+    end: 48,
+    protocol: 58,
+};
+
+const TCP_BEHIND_ROUTING: Chained = Chained {
+    packet: concat!(
+        "60 00 00 00 00 2C 2B 40", // payload of 44 bytes, next is 43
+        "20010DB8 00000000 00000000 00000001",
+        "20010DB8 00000000 00000000 00000002",
+        "06 02 04 00 00 00 00 00", // routing: next is 6, 24 bytes, type 4, no segments left
+        "20010DB8 00000000 00000000 00000002",
+        "03E8 0050 00000001 00000000 5002 FFFF 5035 0000", // TCP: SYN from port 1,000 to port 80
+    ),
+    end: 64,
+    protocol: 6,
+};
+
+const UDP_BEHIND_DESTINATION: Chained = Chained {
+    packet: concat!(
+        "60 00 00 00 00 18 3C 40", // payload of 24 bytes, next is 60
+        "20010DB8 00000000 00000000 00000001",
+        "20010DB8 00000000 00000000 00000002",
+        "11 01 01 0C 00 00 00 00 00 00 00 00 00 00 00 00", // destination options: next is 17, 16 bytes, PadN of 12
+        "03 E8 07 D0 00 08 98 B1",                         // UDP
+    ),
+    end: 56,
+    protocol: 17,
+};
+
+const UDP_BEHIND_AUTHENTICATION: Chained = Chained {
+    packet: concat!(
+        "60 00 00 00 00 20 33 40", // payload of 32 bytes, next is 51
+        "20010DB8 00000000 00000000 00000001",
+        "20010DB8 00000000 00000000 00000002",
+        "11 04 00 00 00 00 01 00 00 00 00 01", // authentication: next is 17, (4 + 2) * 4 bytes, SPI 256, number 1
+        "A0 A1 A2 A3 A4 A5 A6 A7 A8 A9 AA AB", // its ICV
+        "03 E8 07 D0 00 08 98 B1",             // UDP
+    ),
+    end: 64,
+    protocol: 17,
+};
+
+const NOTHING_BEHIND_MOBILITY: Chained = Chained {
+    packet: concat!(
+        "60 00 00 00 00 08 87 40", // payload of 8 bytes, next is 135
+        "20010DB8 00000000 00000000 00000001",
+        "20010DB8 00000000 00000000 00000002",
+        "3B 00 00 00 68 FB 00 00", // mobility: next is 59 (no next header), 8 bytes, a binding refresh request
+    ),
+    end: 48,
+    protocol: 59,
+};
+
+const NO_NEXT_HEADER: Chained = Chained {
+    packet: concat!(
+        "60 00 00 00 00 04 3B 40", // payload of 4 bytes, next is 59
+        "20010DB8 00000000 00000000 00000001",
+        "20010DB8 00000000 00000000 00000002",
+        "3A FF 00 00", // bytes of nothing
+    ),
+    end: 40,
+    protocol: 59,
+};
+
+const ESP_BEHIND_HOP_BY_HOP: Chained = Chained {
+    packet: concat!(
+        "60 00 00 00 00 14 00 40", // payload of 20 bytes, next is 0
+        "20010DB8 00000000 00000000 00000001",
+        "20010DB8 00000000 00000000 00000002",
+        "32 00 01 04 00 00 00 00",             // hop-by-hop options: next is 50
+        "3A 00 01 00 00 00 00 01 C0 C1 C2 C3", // ESP: SPI 3A000100, number 1, and what nobody can read
+    ),
+    end: 48,
+    protocol: 50,
+};
+
+const FIRST_FRAGMENT: Chained = Chained {
+    packet: concat!(
+        "60 00 00 00 00 10 2C 40", // payload of 16 bytes, next is 44
+        "20010DB8 00000000 00000000 00000001",
+        "20010DB8 00000000 00000000 00000002",
+        "3A 00 00 01 12 34 56 78", // fragment: next is 58, offset 0, more to come
+        "80 00 24 40 00 07 00 01", // ICMPv6 echo request
+    ),
+    end: 48,
+    protocol: 58,
+};
+
+const LATER_FRAGMENT: Chained = Chained {
+    packet: concat!(
+        "60 00 00 00 00 10 2C 40", // payload of 16 bytes, next is 44
+        "20010DB8 00000000 00000000 00000001",
+        "20010DB8 00000000 00000000 00000002",
+        "3A 00 05 A8 12 34 56 78", // fragment: next is 58, offset 181 times 8 bytes, the last
+        "61 62 63 64 65 66 67 68", // data
+    ),
+    end: 48,
+    protocol: 44,
+};
+
+const EVERY_KIND: Chained = Chained {
+    packet: concat!(
+        "60 00 00 00 00 64 00 40", // payload of 100 bytes, next is 0
+        "20010DB8 00000000 00000000 00000001",
+        "20010DB8 00000000 00000000 00000002",
+        "3C 00 01 04 00 00 00 00", // at 40, hop-by-hop options: next is 60
+        "2B 01 01 0C 00 00 00 00 00 00 00 00 00 00 00 00", // at 48, destination options: next is 43, 16 bytes
+        "2C 02 04 00 00 00 00 00", // at 64, routing: next is 44, 24 bytes
+        "20010DB8 00000000 00000000 00000002",
+        "33 00 00 01 12 34 56 78",             // at 88, fragment: next is 51, offset 0
+        "87 01 00 00 00 00 01 00 00 00 00 01", // at 96, authentication: next is 135, (1 + 2) * 4 bytes
+        "3C 01 00 00 00 00 00 00 00 00 00 00 00 00 00 00", // at 108, mobility: next is 60, 16 bytes
+        "11 00 01 04 00 00 00 00",             // at 124, destination options across byte 128: next is 17
+        "03 E8 07 D0 00 08 98 B1",             // at 132, UDP
+    ),
+    end: 132,
+    protocol: 17,
+};
+
+const LATER_FRAGMENT_BEHIND_THE_FRONT: Chained = Chained {
+    packet: concat!(
+        "60 00 00 00 00 6C 3C 40", // payload of 108 bytes, next is 60
+        "20010DB8 00000000 00000000 00000001",
+        "20010DB8 00000000 00000000 00000002",
+        "33 09 01 4C 00 00 00 00 00 00 00 00 00 00 00 00", // at 40, destination options: next is 51, 80 bytes, PadN of 76
+        "00 00 00 00 00 00 00 00 00 00 00 00 00 00 00 00",
+        "00 00 00 00 00 00 00 00 00 00 00 00 00 00 00 00",
+        "00 00 00 00 00 00 00 00 00 00 00 00 00 00 00 00",
+        "00 00 00 00 00 00 00 00 00 00 00 00 00 00 00 00",
+        "2C 01 00 00 00 00 01 00 00 00 00 01", // at 120, authentication across byte 128: next is 44, 12 bytes
+        "11 00 00 08 12 34 56 78",             // at 132, fragment: next is 17, offset 8 bytes
+        "61 62 63 64 65 66 67 68",             // at 140, data
+    ),
+    end: 140,
+    protocol: 44,
+};
+
+const CHAINED: [Chained; 11] = [
+    ICMP_BEHIND_HOP_BY_HOP,
+    TCP_BEHIND_ROUTING,
+    UDP_BEHIND_DESTINATION,
+    UDP_BEHIND_AUTHENTICATION,
+    NOTHING_BEHIND_MOBILITY,
+    NO_NEXT_HEADER,
+    ESP_BEHIND_HOP_BY_HOP,
+    FIRST_FRAGMENT,
+    LATER_FRAGMENT,
+    EVERY_KIND,
+    LATER_FRAGMENT_BEHIND_THE_FRONT,
+];
+
+/// 2001:db8::1 is ours, a protocol to 2001:db8::2 is routed to us.
+fn ipv6_grants(protocol: u8) -> Grants {
+    let address = |low: u128| (0x2001_0DB8 << 96) + low;
+    let entry = AddressEntry { request_id: RequestId(0), version: 6, prefix: 128, address: address(1) };
+    let range = RouteRange { version: 6, protocol, start: address(2), end: address(2) };
+    Grants { received_addresses: list(&[entry]), received_routes: list(&[range]), ..Grants::default() }
+}
+
+/// One template of both IPv6 addresses.
+fn ipv6_plan() -> Plan {
+    let mut template =
+        Template { id: ContextId(2), segments: list(&[Segment { offset: 8, length: 32 }]), ..Template::default() };
+    template.bytes[8..40].copy_from_slice(&hex(NO_NEXT_HEADER.packet)[8..40]);
+    Plan { templates: list(&[template]) }
+}
+
+/// Sent and received in full and by a template: the one answer of all.
+fn carried(protocol: u8, packet: &[u8]) -> Result<(), Refusal> {
+    let grants = ipv6_grants(protocol);
+    let mut lowered = packet.to_vec();
+    lowered[7] -= 1;
+    let full = [&[0][..], &lowered].concat();
+    let short = [&[2][..], &lowered[..8], &lowered[40..]].concat();
+    let answers = [(Plan::default(), full), (ipv6_plan(), short)].map(|(plan, datagram)| {
+        let (mut out, mut back) = ([0xAA; SEND_ROOM], [0xAA; RECEIVE_ROOM]);
+        let sent = send(&grants, &plan, packet, &mut out);
+        let received = receive(&grants.mirrored(), &plan, &datagram, &mut back);
+        assert_eq!(sent.map(|length| out[..length].to_vec()), received.map(|_| datagram));
+        assert_eq!(received.map(|length| back[..length].to_vec()), received.map(|_| lowered.clone()));
+        received.map(|_| ())
+    });
+    assert_eq!(answers[0], answers[1]);
+    answers[0]
+}
+
+/// The protocol of a packet, wherever it is taken apart.
+fn protocol_of(packet: &[u8]) -> Option<u8> {
+    let whole = Header::read(packet, &[]);
+    for cut in 40..packet.len() {
+        let (front, tail) = packet.split_at(cut);
+        assert_eq!(Header::read(front, tail), whole, "taken apart at {cut}");
+    }
+    whole.map(|header| header.protocol)
+}
+
+/// The packet's first bytes, with the payload length that they have.
+fn cut_at(packet: &[u8], cut: usize) -> Vec<u8> {
+    let mut front = packet[..cut].to_vec();
+    packet::put_word(&mut front, 4, (cut - 40) as u16);
+    front
+}
+
+#[test]
+fn protocol_behind_a_chain() {
+    for Chained { packet, protocol, .. } in CHAINED {
+        let packet = hex(packet);
+        assert_eq!(protocol_of(&packet), Some(protocol));
+        assert_eq!(carried(protocol, &packet), Ok(()));
+        assert_eq!(carried(0, &packet), Ok(()));
+        // ICMP passes whatever protocol a range names; byte 6 lets nothing pass.
+        for other in [1, 255, packet[6], 44, 50, 51, 59, 60] {
+            if other == 0 || other == protocol {
+                continue;
+            }
+            let answer = if protocol == 58 { Ok(()) } else { Err(Refusal::NotGranted) };
+            assert_eq!(carried(other, &packet), answer, "{protocol} where {other} is granted");
+        }
+    }
+}
+
+#[test]
+fn chain_cut_at_every_byte() {
+    for Chained { packet, end, protocol } in CHAINED {
+        let packet = hex(packet);
+        for cut in 40..=packet.len() {
+            let front = cut_at(&packet, cut);
+            let whole = cut >= end;
+            assert_eq!(protocol_of(&front), whole.then_some(protocol), "{protocol} cut at {cut}");
+            for granted in [protocol, 0] {
+                let answer = if whole { Ok(()) } else { Err(Refusal::BadForm) };
+                assert_eq!(carried(granted, &front), answer, "{protocol} cut at {cut}");
+            }
+        }
+    }
+}
+
+#[test]
+fn fragments() {
+    let with = |length: u8, word: u16| {
+        let mut packet = hex(LATER_FRAGMENT.packet);
+        packet[41] = length;
+        packet::put_word(&mut packet, 42, word);
+        packet
+    };
+    // The flag for more, the reserved bits and the reserved byte are no offset and no length.
+    for (length, word) in [(0, 0), (0, 1), (0, 2), (0, 4), (0, 7), (255, 0), (255, 7)] {
+        assert_eq!(protocol_of(&with(length, word)), Some(58));
+        assert_eq!(carried(6, &with(length, word)), Ok(()));
+    }
+    for (length, word) in [(0, 8), (0, 9), (255, 8), (0, 0x0100), (0, 0x8000), (255, 0xFFFF)] {
+        let packet = with(length, word);
+        assert_eq!(protocol_of(&packet), Some(44));
+        assert_eq!((carried(44, &packet), carried(6, &packet)), (Ok(()), Err(Refusal::NotGranted)));
+        assert_eq!(carried(58, &packet), Err(Refusal::NotGranted));
+        for cut in 40..48 {
+            assert_eq!(carried(44, &cut_at(&packet, cut)), Err(Refusal::BadForm));
+        }
+        assert_eq!(carried(44, &cut_at(&packet, 48)), Ok(()));
+    }
+}
+
+#[test]
+fn sizes_of_headers() {
+    // A header of `number` and `length` before UDP, in a packet of which it leaves `room` bytes.
+    let with = |number: u8, length: u8, size: usize, room: usize| {
+        let mut packet = cut_at(&hex(NO_NEXT_HEADER.packet), 40);
+        packet[6] = number;
+        packet.extend([17, length]);
+        packet.resize(40 + size + room - 1, 0x3A);
+        let length = packet.len();
+        cut_at(&packet, length)
+    };
+    for length in [0, 1, 2, 3, 4, 127, 128, 181] {
+        let wide = 8 + 8 * usize::from(length);
+        let narrow = (usize::from(length) + 2) * 4;
+        for (number, size) in [(0, wide), (43, wide), (60, wide), (135, wide), (51, narrow), (44, 8)] {
+            // A fragment's second byte is reserved, and its offset here would not be 0.
+            let whole = if number == 44 { 44 } else { 17 };
+            assert_eq!(protocol_of(&with(number, length, size, 0)), None);
+            assert_eq!(protocol_of(&with(number, length, size, 1)), Some(whole));
+            assert_eq!(carried(whole, &with(number, length, size, 1)), Ok(()));
+            assert_eq!(carried(whole, &with(number, length, size, 0)), Err(Refusal::BadForm));
+        }
+    }
+    // No packet has room for the longest but of authentication.
+    assert_eq!(protocol_of(&with(51, 255, 1028, 1)), Some(17));
+    assert_eq!(carried(17, &with(0, 255, 1460, 1)), Err(Refusal::BadForm));
+    assert_eq!(carried(17, &with(0, 255, 2048, 1)), Err(Refusal::PacketTooLong));
+}
+
+#[test]
+fn longest_chain() {
+    // 182 headers of 8 bytes each, and 4 bytes are left.
+    let mut packet = hex(NO_NEXT_HEADER.packet);
+    packet.truncate(40);
+    packet[6] = 0;
+    packet.extend(hex("3C 00 01 04 00 00 00 00").repeat(181));
+    packet.extend(hex("11 00 01 04 00 00 00 00"));
+    packet.extend([0x3C; 4]);
+    let packet = cut_at(&packet, 1500);
+    assert_eq!(protocol_of(&packet), Some(17));
+    assert_eq!((carried(17, &packet), carried(60, &packet)), (Ok(()), Err(Refusal::NotGranted)));
+    assert_eq!(carried(17, &cut_at(&packet, 1496)), Ok(()));
+    assert_eq!(carried(17, &cut_at(&packet, 1495)), Err(Refusal::BadForm));
+}
+
+#[test]
+fn form_comes_before_hop_count_and_grants() {
+    let mut packet = hex(EVERY_KIND.packet);
+    packet[7] = 1;
+    let sent = |packet: &[u8]| send(&ipv6_grants(6), &Plan::default(), packet, &mut [0; SEND_ROOM]);
+    assert_eq!(sent(&cut_at(&packet, 131)), Err(Refusal::BadForm));
+    assert_eq!(sent(&packet), Err(Refusal::HopCountSpent));
+    packet[7] = 2;
+    assert_eq!(sent(&packet), Err(Refusal::NotGranted));
+}
+
+#[test]
+fn ipv4_has_no_chain() {
+    for protocol in [0, 43, 44, 51, 60, 135] {
+        let mut packet = hex(PACKET);
+        packet[9] = protocol;
+        packet::put_word(&mut packet, 10, 0);
+        let checksum = !packet::fold(packet::sum(&packet[..20]));
+        packet::put_word(&mut packet, 10, checksum);
+        assert_eq!(Header::read(&packet, &[]).map(|header| header.protocol), Some(protocol));
+    }
+}
+
+#[test]
+fn sums_keep_byte_6() {
+    // The words of UDP behind destination options come to FFFF with 17 in the pseudo-header; the seed has 60.
+    let packet = hex(UDP_BEHIND_DESTINATION.packet);
+    let rest = packet::sum(&packet[8..40]) + packet::sum(&packet[56..]) + 8;
+    assert_eq!(packet::fold(rest + 17), 0xFFFF);
+    assert_eq!(packet::seed(&packet, 64, 56), packet::fold(packet::sum(&packet[8..40]) + 60 + 8));
+    assert!(!packet::is_udp(&packet) && packet::is_udp(&cut_at(&[&packet[..6], &[17], &packet[7..]].concat(), 64)));
 }
