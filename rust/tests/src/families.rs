@@ -1,6 +1,7 @@
 //! The families of cases.
 
 use crate::capsules::{about_limit, capsule, number_form};
+use crate::chains::{self, chains, Way};
 use crate::compare::{Run, Written};
 use crate::lists::{
     count, damage_addresses, damage_lists, damage_routes, litter_addresses, litter_lists, litter_routes,
@@ -29,9 +30,10 @@ pub const FAMILIES: &[(&str, Family, u64)] = &[
     ("capsules_read", capsules_read, 15),
     ("capsules_written", capsules_written, 10),
     ("plans", plans, 12),
-    ("packets", packets, 35),
+    ("packets", packets, 27),
     ("capsules_in_pieces", capsules_in_pieces, 19),
     ("requests", requests, 1),
+    ("chains", chains, 8),
 ];
 
 /// Sizes that a run must have come by one below their limits, at them and one above.
@@ -57,7 +59,7 @@ pub const LIMITS: &[&str] = &[
     "bytes kept",
 ];
 
-/// What a run must have come by, beside every answer.
+/// What a run must have come by, beside every answer; and the occasions of chains.
 pub const OCCASIONS: &[&str] = &[
     "capsule read under a broken plan",
     "received by an end with other words of the same meaning",
@@ -400,6 +402,8 @@ fn packets(run: &mut Run, random: &mut Random, cases: u64) {
             let packet = variation(random, &scene);
             let out = random.output(SEND_ROOM);
             let sent = run.send(&state, &packet, &out);
+            let way = if sent.bytes().is_some_and(|b| b[0] != 0) { Way::SentShort } else { Way::SentFull };
+            chains::note(run, way, &packet, sent.answer.number);
             if sent.bytes().is_some() {
                 occasions(run, &plan, &packet, &sent);
                 both_forms(run, random, &receivers, &packet, &sent);
@@ -408,7 +412,8 @@ fn packets(run: &mut Run, random: &mut Random, cases: u64) {
             let receiver = if random.once_in(6) { random.pick(&[&receivers[1], &receivers[2]]) } else { &receivers[0] };
             let out = random.output(RECEIVE_ROOM);
             let received = run.receive(receiver, &datagram, &out);
-            if let (Some(_), Some((id, size))) = (received.bytes(), number::parse(&datagram)) {
+            if let (Some(bytes), Some((id, size))) = (received.bytes(), number::parse(&datagram)) {
+                chains::note(run, if id == 0 { Way::ReceivedFull } else { Way::ReceivedShort }, bytes, 0);
                 if id != 0 && size > number::size(id) {
                     run.occasion("received short, Context ID in a longer form");
                 }

@@ -4,6 +4,7 @@
 //! of the same state and output. Everything that either can alter is compared afterwards.
 
 pub mod capsules;
+pub mod chains;
 pub mod compare;
 pub mod families;
 pub mod lists;

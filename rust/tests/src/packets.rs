@@ -1,6 +1,7 @@
 //! Packets and datagrams: allowed by lists, fitting templates, and just not.
 
 use crate::capsules::{flip, number_form};
+use crate::chains::{chain, damage_chain, Chain};
 use crate::lists::{address_in, address_of, open_grants, sound_grants, top, version};
 use crate::plans::{any_checksum, ids, segments};
 use crate::random::Random;
@@ -94,7 +95,7 @@ fn packet_length(random: &mut Random) -> usize {
     }
 }
 
-/// A packet of at least its header, with its length and its header checksum right.
+/// A packet of at least its headers, with its length and its header checksum right; IPv6 often has a chain of them before the protocol.
 fn packet(random: &mut Random, flow: &Flow, length: usize) -> Vec<u8> {
     let hops = random.pick(&[2, 3, 64, 64, 128, 255]);
     let mut packet;
@@ -107,9 +108,12 @@ fn packet(random: &mut Random, flow: &Flow, length: usize) -> Vec<u8> {
         packet[12..16].copy_from_slice(&(flow.source as u32).to_be_bytes());
         packet[16..20].copy_from_slice(&(flow.destination as u32).to_be_bytes());
     } else {
-        packet = random.bytes(length.max(40));
+        let (first, chain) =
+            if random.once_in(3) { chain(random, flow.protocol, MAX_PACKET - 40) } else { (flow.protocol, Vec::new()) };
+        packet = random.bytes(length.max(40 + chain.len()));
         packet[0] = 0x60 | packet[0] & 0x0f;
-        packet[6] = flow.protocol;
+        packet[6] = first;
+        packet[40..][..chain.len()].copy_from_slice(&chain);
         packet[7] = hops;
         packet[8..24].copy_from_slice(&flow.source.to_be_bytes());
         packet[24..40].copy_from_slice(&flow.destination.to_be_bytes());
@@ -125,8 +129,16 @@ fn header_length(packet: &[u8]) -> usize {
     }
 }
 
+/// Where the headers end, those of a whole chain among them.
+fn headers_length(packet: &[u8]) -> usize {
+    match packet[0] >> 4 {
+        6 if packet.len() >= 40 => Some(Chain::of(packet)).filter(|c| c.protocol.is_some()).map_or(40, |c| c.end()),
+        _ => header_length(packet),
+    }
+}
+
 /// The length and, for IPv4, the header checksum.
-fn seal_length(packet: &mut [u8]) {
+pub fn seal_length(packet: &mut [u8]) {
     let length = packet.len();
     match packet[0] >> 4 {
         4 => put_word(packet, 2, length as u16),
@@ -151,7 +163,7 @@ fn checksum_of(random: &mut Random, packet: &[u8]) -> Option<Checksum> {
     if random.once_in(5) {
         return Some(any_checksum(random));
     }
-    let start = header_length(packet);
+    let start = headers_length(packet);
     let field = start + random.pick(&[6, 6, 16, 2, 0]);
     (field <= 126).then_some(Checksum { field, start })
 }
@@ -172,7 +184,7 @@ fn settle(random: &mut Random, packet: &mut [u8], checksum: Option<Checksum>) {
     if let Some(c) = checksum.filter(|c| c.field + 2 <= packet.len()) {
         // Another word that makes up for all others, so that the sum comes to zero.
         let other = c.field + 2;
-        if other + 2 <= packet.len() && other >= header_length(packet) && random.once_in(10) {
+        if other + 2 <= packet.len() && other >= headers_length(packet) && random.once_in(10) {
             put_word(packet, other, 0);
             if let Some(rest) = completion(packet, c) {
                 put_word(packet, other, rest);
@@ -192,7 +204,7 @@ fn settle(random: &mut Random, packet: &mut [u8], checksum: Option<Checksum>) {
     }
 }
 
-fn seal_transport(packet: &mut [u8], c: Checksum) {
+pub fn seal_transport(packet: &mut [u8], c: Checksum) {
     put_word(packet, c.field, 0);
     let Some(closing) = completion(packet, c) else { return };
     let in_addresses = packet[0] >> 4 == 6 && c.field < 40;
@@ -280,9 +292,9 @@ fn stable_segments(lowered: &[u8], checksum: Option<Checksum>, template: &mut Te
 /// A packet of the scene's flow, or one that differs from it in something that matters.
 pub fn variation(random: &mut Random, scene: &Scene) -> Vec<u8> {
     let mut packet = scene.packet.clone();
-    let header = header_length(&packet).min(packet.len());
+    let header = headers_length(&packet).min(packet.len());
     let hop = if packet[0] >> 4 == 4 { 8 } else { 7 };
-    match random.below(20) {
+    match random.below(23) {
         0 | 1 => {}
         2 | 3 => {
             packet[hop] = random.pick(&[0, 1, 1, 2, 255]);
@@ -342,13 +354,19 @@ pub fn variation(random: &mut Random, scene: &Scene) -> Vec<u8> {
             settle(random, &mut packet, scene.checksum);
         }
         17 => {
-            packet[if hop == 8 { 9 } else { 6 }] = random.pick(&[0, 1, 6, 17, 58, 255]);
+            packet[if hop == 8 { 9 } else { 6 }] = random.pick(&[0, 1, 6, 17, 43, 44, 50, 51, 58, 59, 60, 135, 255]);
             settle(random, &mut packet, scene.checksum);
         }
         18 if random.once_in(3) => {
             let length = random.pick(&[MAX_PACKET + 1, MAX_PACKET + 2, SEND_ROOM, 1600, 65535]);
             packet.resize(length, random.byte());
             seal_length(&mut packet);
+        }
+        19..=21 => {
+            if packet[0] >> 4 == 6 {
+                damage_chain(random, &mut packet);
+            }
+            settle(random, &mut packet, scene.checksum.filter(|c| c.field >= header));
         }
         _ => {
             let length = random.pick(&[0, 1, 19, 20, 39, 40, 60, 200]);

@@ -4,6 +4,7 @@
 use std::collections::BTreeMap;
 use std::process::ExitCode;
 use std::time::Instant;
+use whapirohi_differential::chains;
 use whapirohi_differential::compare::Run;
 use whapirohi_differential::families::{FAMILIES, LIMITS, OCCASIONS};
 use whapirohi_differential::random::Random;
@@ -62,7 +63,7 @@ fn main() -> ExitCode {
     let (table, mut missing) = all.table();
     println!("\nhow often each answer was given:\n{table}");
     println!("and how often this came about:");
-    for name in OCCASIONS {
+    for name in OCCASIONS.iter().chain(chains::OCCASIONS) {
         let count = all.occasions.get(name).copied().unwrap_or(0);
         println!("  {name}: {count}");
         if count == 0 {
