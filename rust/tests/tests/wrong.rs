@@ -1,15 +1,17 @@
 //! The tests themselves: subjects that are wrong in one thing each are found out.
 
 use whapirohi_differential::capsules::{first_elements, Measure};
+use whapirohi_differential::chains::Chain;
 use whapirohi_differential::compare::Run;
 use whapirohi_differential::families::{Family, FAMILIES};
 use whapirohi_differential::random::Random;
 use whapirohi_differential::subject::{Lent, Model, Subject};
-use whapirohi_differential::words::{address_list, address_words};
+use whapirohi_differential::words::{address_list, address_words, grants_of, plan_of, plan_words};
 use whapirohi_reference::capsule::MAX_VALUE;
 use whapirohi_reference::list::{MAX_ADDRESSES, MAX_RANGES};
 use whapirohi_reference::number;
-use whapirohi_reference::packet::{complete, put_word, seed, sum};
+use whapirohi_reference::packet::{complete, put_word, seed, sum, word_at, Header};
+use whapirohi_reference::plan::STATIC_LIMIT;
 use whapirohi_tunnel::{AddressWords, Answer, Capsule, Number, Piece, RouteWords, State, ADDRESS_WORDS, KEPT_SIZE};
 
 #[derive(Clone, Copy, Debug, PartialEq)]
@@ -47,6 +49,90 @@ enum Slip {
     RangePastTheLimitTaken,
     LongestValueRefused,
     LongestStoreRefused,
+    ProtocolOfByte6,
+    ProtocolOfByte6OnReceiving,
+    IcmpByByte6,
+    AuthenticationInUnitsOf8,
+    FirstEightBytesForgotten,
+    MobilityNotSkipped,
+    EspSkipped,
+    CutHeaderTaken,
+    CutLaterFragmentTaken,
+    EveryFragmentIsLater,
+    EveryFragmentIsFirst,
+    FlagsTakenAsOffset,
+    ChainEndsWithTheFront,
+    ChainReadForTheSeed,
+}
+
+/// The slips in how a packet with a chain is judged.
+const JUDGES: [Slip; 13] = [
+    Slip::ProtocolOfByte6,
+    Slip::ProtocolOfByte6OnReceiving,
+    Slip::IcmpByByte6,
+    Slip::AuthenticationInUnitsOf8,
+    Slip::FirstEightBytesForgotten,
+    Slip::MobilityNotSkipped,
+    Slip::EspSkipped,
+    Slip::CutHeaderTaken,
+    Slip::CutLaterFragmentTaken,
+    Slip::EveryFragmentIsLater,
+    Slip::EveryFragmentIsFirst,
+    Slip::FlagsTakenAsOffset,
+    Slip::ChainEndsWithTheFront,
+];
+
+/// The ways of a packet that a slip may be about.
+#[derive(Clone, Copy, PartialEq)]
+enum Way {
+    Sent,
+    ReceivedFull,
+    ReceivedShort,
+}
+
+/// The protocol behind a chain as the slip reads it; none where it misses a part of a header.
+fn misread(slip: Slip, way: Way, packet: &[u8]) -> Option<u8> {
+    if slip == Slip::ProtocolOfByte6 || slip == Slip::ProtocolOfByte6OnReceiving && way != Way::Sent {
+        return Some(packet[6]);
+    }
+    let seen = match slip {
+        Slip::ChainEndsWithTheFront if way == Way::ReceivedShort => &packet[..packet.len().min(STATIC_LIMIT)],
+        _ => packet,
+    };
+    let (mut number, mut at) = (packet[6], 40);
+    // A header that takes no bytes is not read for ever.
+    for _ in 0..packet.len() {
+        let unit = match number {
+            0 | 43 | 60 => 8,
+            135 if slip != Slip::MobilityNotSkipped => 8,
+            50 if slip == Slip::EspSkipped => 8,
+            51 if slip == Slip::AuthenticationInUnitsOf8 => 8,
+            51 => 4,
+            44 => 0,
+            _ => return Some(number),
+        };
+        let first = if slip == Slip::FirstEightBytesForgotten && number != 44 { 0 } else { 8 };
+        let size = first + unit * usize::from(*seen.get(at + 1)?);
+        let whole = at + size <= seen.len();
+        if number == 44 && (whole || slip == Slip::CutLaterFragmentTaken) {
+            let word = seen.get(at + 2..at + 4).map_or(0, |bytes| word_at(bytes, 0));
+            let later = match slip {
+                Slip::EveryFragmentIsLater => true,
+                Slip::EveryFragmentIsFirst => false,
+                Slip::FlagsTakenAsOffset => word != 0,
+                _ => word >= 8,
+            };
+            if later {
+                return Some(44);
+            }
+        }
+        if !whole && slip != Slip::CutHeaderTaken {
+            return None;
+        }
+        number = seen[at];
+        at += size;
+    }
+    None
 }
 
 struct Wrong(Slip);
@@ -61,6 +147,44 @@ impl Wrong {
             out[0] ^= 1;
         }
         answer
+    }
+
+    /// What the slip answers of a packet's form, hop count and grants, where it is about chains and this packet may have one.
+    fn judged(&self, state: &State, way: Way, packet: &[u8]) -> Option<u64> {
+        let sized = packet.len() >= 40 && packet[0] >> 4 == 6 && usize::from(word_at(packet, 4)) + 40 == packet.len();
+        if !sized || !JUDGES.contains(&self.0) {
+            return None;
+        }
+        let Some(protocol) = misread(self.0, way, packet) else { return Some(10) };
+        let mut bare = packet[..40].to_vec();
+        bare[6] = 59;
+        put_word(&mut bare, 4, 0);
+        let header = Header { protocol, ..Header::read(&bare, &[]).unwrap() };
+        if way == Way::Sent && header.hop_count <= 1 {
+            return Some(11);
+        }
+        let mut grants = grants_of(state);
+        if self.0 == Slip::IcmpByByte6 && header.is_icmp() && packet[6] != protocol {
+            for routes in [&mut grants.received_routes, &mut grants.given_routes] {
+                let granting: Vec<_> =
+                    routes.stored().iter().filter(|r| matches!(r.protocol, 0 | 58)).copied().collect();
+                routes.count = granting.len();
+                routes.items[..granting.len()].copy_from_slice(&granting);
+            }
+        }
+        let allowed = if way == Way::Sent { grants.allow_sending(&header) } else { grants.allow_receiving(&header) };
+        Some(if allowed { 0 } else { 12 })
+    }
+
+    /// The model's answer, or what was judged in its place; the output is then as it was.
+    fn misjudge(&self, judged: Option<u64>, answer: Answer, before: &[u8], out: &mut [u8]) -> Answer {
+        match judged {
+            Some(number) if number != answer.number && matches!(answer.number, 0 | 10..=12) => {
+                out.copy_from_slice(before);
+                Answer { number, length: 0 }
+            }
+            _ => answer,
+        }
     }
 }
 
@@ -192,9 +316,22 @@ impl Subject for Wrong {
                 let checksum = complete(words, packet[9] == 17);
                 put_word(&mut packet, 26, checksum);
             }
+            Slip::ChainReadForTheSeed if packet.len() >= 40 && packet[0] >> 4 == 6 => {
+                // The checksum that fits with byte 6 in the seed does not fit with another protocol.
+                let mut plan = plan_of(&state.plan);
+                if plan.sound() && Chain::of(&packet).protocol != Some(packet[6]) {
+                    let fitting: Vec<_> =
+                        plan.templates.stored().iter().filter(|t| t.checksum.is_none()).copied().collect();
+                    plan.templates.count = fitting.len();
+                    plan.templates.items[..fitting.len()].copy_from_slice(&fitting);
+                    state.plan = plan_words(&plan);
+                }
+            }
             _ => {}
         }
+        let before = out.to_vec();
         let answer = Model.send(&state, &packet, out);
+        let answer = self.misjudge(self.judged(&state, Way::Sent, &packet), answer, &before, out);
         self.wrote(answer, out)
     }
 
@@ -204,7 +341,15 @@ impl Subject for Wrong {
         {
             return Answer { number: 13, length: 0 };
         }
+        let before = out.to_vec();
         let answer = Model.receive(state, datagram, out);
+        let judged = match number::parse(datagram) {
+            Some((0, size)) => self.judged(state, Way::ReceivedFull, &datagram[size..]),
+            // What a template makes is known where it passed.
+            Some(_) if answer.number == 0 => self.judged(state, Way::ReceivedShort, &out[..answer.length as usize]),
+            _ => None,
+        };
+        let answer = self.misjudge(judged, answer, &before, out);
         if self.0 == Slip::HopCountLoweredOnReceiving && answer.number == 0 && out[0] >> 4 == 6 {
             out[7] = out[7].wrapping_sub(1);
         }
@@ -279,7 +424,11 @@ fn wrong_subjects_are_found_out() {
         Slip::RangePastTheLimitTaken,
         Slip::LongestValueRefused,
         Slip::LongestStoreRefused,
-    ] {
+        Slip::ChainReadForTheSeed,
+    ]
+    .into_iter()
+    .chain(JUDGES)
+    {
         assert!(faults(slip) > 0, "{slip:?} is not noticed");
     }
 }
