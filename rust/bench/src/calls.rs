@@ -4,7 +4,7 @@
 
 use std::hint::black_box;
 use std::process::ExitCode;
-use whapirohi_bench::{grants, packet, plan, Family, Miss};
+use whapirohi_bench::{chained_packet, grants, packet, plan, short_headers, Family, Miss, MOST_HEADERS};
 use whapirohi_differential::subject::{Library, Subject};
 use whapirohi_differential::words::{mirrored, state_of};
 use whapirohi_reference::list::{MAX_ADDRESSES, MAX_RANGES};
@@ -20,6 +20,17 @@ struct Row {
     addresses: usize,
     ranges: usize,
     templates: usize,
+    /// The IPv6 headers of the packet's chain.
+    headers: usize,
+}
+
+impl Row {
+    fn packet(&self) -> Vec<u8> {
+        match self.headers {
+            0 => packet(self.family, self.length),
+            headers => chained_packet(&short_headers(headers), self.length),
+        }
+    }
 }
 
 const FIRST: Row = Row {
@@ -30,9 +41,12 @@ const FIRST: Row = Row {
     addresses: 1,
     ranges: 1,
     templates: 0,
+    headers: 0,
 };
 
-const ROWS: [Row; 9] = [
+const LONG_IPV6: Row = Row { name: "send-1500-in-full-ipv6", family: Family::V6, length: MAX_PACKET, ..FIRST };
+
+const ROWS: [Row; 13] = [
     FIRST,
     Row { name: "receive-1500-in-full", sending: false, length: MAX_PACKET, ..FIRST },
     Row { name: "send-64-by-a-template", templates: 1, ..FIRST },
@@ -49,6 +63,10 @@ const ROWS: [Row; 9] = [
         templates: 1,
         ..FIRST
     },
+    LONG_IPV6,
+    Row { name: "send-1500-half-chain-ipv6", headers: MOST_HEADERS / 2, ..LONG_IPV6 },
+    Row { name: "send-1500-longest-chain-ipv6", headers: MOST_HEADERS, ..LONG_IPV6 },
+    Row { name: "receive-1500-longest-chain-ipv6", sending: false, headers: MOST_HEADERS, ..LONG_IPV6 },
 ];
 
 fn main() -> ExitCode {
@@ -74,11 +92,11 @@ fn usage() -> ExitCode {
 }
 
 fn by_library(row: &Row, calls: u32) {
-    let &Row { family, sending, length, addresses, ranges, templates, .. } = row;
+    let &Row { family, sending, addresses, ranges, templates, .. } = row;
     let plan = plan(family, templates, Miss::EarlierPorts);
     let state = state_of(&grants(family, addresses, ranges), &plan);
     let there = mirrored(&state);
-    let packet = packet(family, length);
+    let packet = row.packet();
     let (mut datagram, mut out) = (vec![0; SEND_ROOM], vec![0; RECEIVE_ROOM]);
     let sent = Library.send(&state, &packet, &mut datagram);
     assert_eq!(sent.number, 0);
@@ -93,11 +111,11 @@ fn by_library(row: &Row, calls: u32) {
 }
 
 fn by_reference(row: &Row, calls: u32) {
-    let &Row { family, sending, length, addresses, ranges, templates, .. } = row;
+    let &Row { family, sending, addresses, ranges, templates, .. } = row;
     let plan = plan(family, templates, Miss::EarlierPorts);
     let here = grants(family, addresses, ranges);
     let there = here.mirrored();
-    let packet = packet(family, length);
+    let packet = row.packet();
     let (mut datagram, mut out) = (vec![0; SEND_ROOM], vec![0; RECEIVE_ROOM]);
     let sent = send(&here, &plan, &packet, &mut datagram).expect("a packet that passes");
     for _ in 0..calls {

@@ -4,7 +4,8 @@ use whapirohi_differential::capsules::number_form;
 use whapirohi_differential::random::Random;
 use whapirohi_reference::capsule::MAX_VALUE;
 use whapirohi_reference::list::{MAX_ADDRESSES, MAX_RANGES};
-use whapirohi_reference::packet::{complete, fold, put_word, seed, sum};
+use whapirohi_reference::packet::{complete, fold, put_word, seed, sum, MAX_PACKET};
+use whapirohi_reference::plan::STATIC_LIMIT;
 use whapirohi_reference::{
     write_datagram, write_routes, AddressEntry, AddressList, Checksum, ContextId, Grants, List, Plan, RequestId,
     RouteList, RouteRange, Segment, Template,
@@ -141,6 +142,50 @@ pub fn packet(family: Family, length: usize) -> Vec<u8> {
         put_word(&mut packet, 10, checksum);
     }
     packet
+}
+
+/// As many headers of 8 bytes as an IPv6 packet can hold.
+pub const MOST_HEADERS: usize = (MAX_PACKET - 40) / 8;
+
+/// Hop-by-hop options, and destination options behind them: IPv6 headers of 8 bytes, as numbers and length bytes.
+pub fn short_headers(count: usize) -> Vec<(u8, u8)> {
+    (0..count).map(|n| (if n == 0 { 0 } else { 60 }, 0)).collect()
+}
+
+/// Hop-by-hop options, destination options, authentication and routing: the third lies across byte 128, the fourth behind it.
+pub const ACROSS_THE_FRONT: [(u8, u8); 4] = [(0, 0), (60, 7), (51, 4), (43, 0)];
+
+/// An IPv6 packet from and to the same addresses, with these headers before UDP.
+pub fn chained_packet(headers: &[(u8, u8)], length: usize) -> Vec<u8> {
+    let mut packet = packet(Family::V6, length);
+    let (mut number_at, mut at) = (6, 40);
+    for &(number, length) in headers {
+        let unit = if number == 51 { 4 } else { 8 };
+        let size = 8 + unit * usize::from(length);
+        packet[number_at] = number;
+        packet[at..at + size].fill(0);
+        packet[at + 1] = length;
+        if matches!(number, 0 | 60) {
+            // One option that pads.
+            packet[at + 2..at + 4].copy_from_slice(&[1, size as u8 - 4]);
+        }
+        (number_at, at) = (at, at + size);
+    }
+    packet[number_at] = UDP;
+    packet
+}
+
+/// One template of all static bytes that such a packet's front can have but for its length and hop count.
+pub fn chained_plan(packet: &[u8]) -> Plan {
+    let mut plan = Plan::default();
+    plan.templates.count = 1;
+    let template = &mut plan.templates.items[0];
+    template.id = ContextId(2);
+    template.segments.count = 2;
+    template.segments.items[0] = Segment { offset: 6, length: 1 };
+    template.segments.items[1] = Segment { offset: 8, length: STATIC_LIMIT - 8 };
+    template.bytes.copy_from_slice(&packet[..STATIC_LIMIT]);
+    plan
 }
 
 /// How the templates differ from the packet.

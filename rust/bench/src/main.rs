@@ -7,14 +7,15 @@ use std::cell::RefCell;
 use std::hint::black_box;
 use std::time::{Duration, Instant};
 use whapirohi_bench::{
-    datagram_capsule, grants, network_lists, numbered_entries, packet, plan, routes_capsule, shuffled_ids, Family,
-    Miss, MOST_DIFFERENT, MOST_ENTRIES, MOST_OF_FOUR, SHORT_IDS,
+    chained_packet, chained_plan, datagram_capsule, grants, network_lists, numbered_entries, packet, plan,
+    routes_capsule, short_headers, shuffled_ids, Family, Miss, ACROSS_THE_FRONT, MOST_DIFFERENT, MOST_ENTRIES,
+    MOST_HEADERS, MOST_OF_FOUR, SHORT_IDS,
 };
 use whapirohi_differential::subject::{Lent, Subject};
 use whapirohi_differential::words::{mirrored, state_of};
 use whapirohi_reference::list::{MAX_ADDRESSES, MAX_RANGES};
 use whapirohi_reference::packet::MAX_PACKET;
-use whapirohi_reference::plan::MAX_TEMPLATES;
+use whapirohi_reference::plan::{MAX_TEMPLATES, STATIC_LIMIT};
 use whapirohi_reference::{
     receive, send, write_assign, write_datagram, write_request, AddressList, Grants, Piece, Plan, Stream,
 };
@@ -86,9 +87,13 @@ fn main() {
             rows.capsules(lists, grants, family);
         }
     }
+    let mut rows = Rows { ratios: &mut ratios, searches: false };
+    println!("\nIPv6 packets with chains of headers: in full, and by one template where the chain goes on behind byte {STATIC_LIMIT}.\n");
+    println!("| call | packet | templates | lists | proved | Rust | ratio |");
+    println!("|---|---:|---|---|---:|---:|---:|");
+    rows.chains("1", &grants(Family::V6, 1, 1));
     let states = states(Family::V4);
     let one = &states[0].1;
-    let mut rows = Rows { ratios: &mut ratios, searches: false };
     println!("\nReading more entries than a list holds, as an ADDRESS_REQUEST and as an ADDRESS_ASSIGN of the same bytes, microseconds; lists of 1.");
     println!("Both are refused with 7, but a request in which IDs repeat with 6.\n");
     println!(
@@ -142,7 +147,7 @@ impl Rows<'_> {
 
     fn tunnel(&mut self, lists: &str, grants: &Grants, packet: &[u8], templates: &str, plan: &Plan) {
         let datagram = self.send(lists, grants, packet, templates, plan);
-        assert_eq!(datagram[0] == 0, templates == "0", "goes short where there is a template");
+        assert_eq!(datagram[0] == 0, plan.templates.count == 0, "goes short where there is a template");
 
         let (there, state) = (grants.mirrored(), mirrored(&state_of(grants, plan)));
         let (mut out, mut other) = (vec![0; RECEIVE_ROOM], vec![0; RECEIVE_ROOM]);
@@ -155,6 +160,15 @@ impl Rows<'_> {
             || receive(black_box(&there), black_box(plan), black_box(&datagram), black_box(&mut other)).unwrap_or(0),
         );
         self.row("receive", packet.len(), templates, lists, times);
+    }
+
+    fn chains(&mut self, lists: &str, grants: &Grants) {
+        for count in [1, MOST_HEADERS / 2, MOST_HEADERS] {
+            let packet = chained_packet(&short_headers(count), MAX_PACKET);
+            self.tunnel(lists, grants, &packet, &format!("0, chain of {count}"), &Plan::default());
+        }
+        let packet = chained_packet(&ACROSS_THE_FRONT, 576);
+        self.tunnel(lists, grants, &packet, "1, chain of 4", &chained_plan(&packet));
     }
 
     fn send(&mut self, lists: &str, grants: &Grants, packet: &[u8], templates: &str, plan: &Plan) -> Vec<u8> {

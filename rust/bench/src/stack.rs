@@ -7,7 +7,8 @@ use std::hint::black_box;
 use std::ptr::{read_volatile, write_volatile};
 use std::thread;
 use whapirohi_bench::{
-    grants, network_lists, numbered_entries, packet, plan, routes_capsule, shuffled_ids, Family, Miss, MOST_DIFFERENT,
+    chained_packet, grants, network_lists, numbered_entries, packet, plan, routes_capsule, short_headers, shuffled_ids,
+    Family, Miss, MOST_DIFFERENT, MOST_HEADERS,
 };
 use whapirohi_differential::capsules::number_form;
 use whapirohi_differential::words::{address_words, mirrored, route_words, state_of};
@@ -211,13 +212,19 @@ fn writing(depths: &mut Depths) {
 
 fn packets(depths: &mut Depths) {
     let packet = packet(Family::V4, MAX_PACKET);
-    let cases = [("in full", full_state(0)), ("by the last of 8 templates", full_state(MAX_TEMPLATES))];
+    let chained = chained_packet(&short_headers(MOST_HEADERS), MAX_PACKET);
+    let ipv6 = Box::new(state_of(&grants(Family::V6, MAX_ADDRESSES, MAX_RANGES), &Plan::default()));
+    let cases = [
+        ("in full", full_state(0), &packet),
+        ("by the last of 8 templates", full_state(MAX_TEMPLATES), &packet),
+        ("in full, the longest chain of IPv6", ipv6, &chained),
+    ];
     let (mut datagram, mut out) = (vec![0; SEND_ROOM], vec![0; RECEIVE_ROOM]);
-    for (case, state) in &cases {
-        depths.call("whapirohi_send", case, 0, || state.send(&packet, &mut datagram).number);
+    for (case, state, packet) in &cases {
+        depths.call("whapirohi_send", case, 0, || state.send(packet, &mut datagram).number);
     }
-    for (case, state) in &cases {
-        let length = state.send(&packet, &mut datagram).length as usize;
+    for (case, state, packet) in &cases {
+        let length = state.send(packet, &mut datagram).length as usize;
         let there = Box::new(mirrored(state));
         depths.call("whapirohi_receive", case, 0, || there.receive(&datagram[..length], &mut out).number);
     }
