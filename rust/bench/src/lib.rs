@@ -5,7 +5,6 @@ use whapirohi_differential::random::Random;
 use whapirohi_reference::capsule::MAX_VALUE;
 use whapirohi_reference::list::{MAX_ADDRESSES, MAX_RANGES};
 use whapirohi_reference::packet::{complete, fold, put_word, seed, sum, MAX_PACKET};
-use whapirohi_reference::plan::STATIC_LIMIT;
 use whapirohi_reference::{
     write_datagram, write_routes, AddressEntry, AddressList, Checksum, ContextId, Grants, List, Plan, RequestId,
     RouteList, RouteRange, Segment, Template,
@@ -175,16 +174,15 @@ pub fn chained_packet(headers: &[(u8, u8)], length: usize) -> Vec<u8> {
     packet
 }
 
-/// One template of all static bytes that such a packet's front can have but for its length and hop count.
+/// One template of both addresses: a chain has no bytes in common with the next.
 pub fn chained_plan(packet: &[u8]) -> Plan {
     let mut plan = Plan::default();
     plan.templates.count = 1;
     let template = &mut plan.templates.items[0];
     template.id = ContextId(2);
-    template.segments.count = 2;
-    template.segments.items[0] = Segment { offset: 6, length: 1 };
-    template.segments.items[1] = Segment { offset: 8, length: STATIC_LIMIT - 8 };
-    template.bytes.copy_from_slice(&packet[..STATIC_LIMIT]);
+    template.segments.count = 1;
+    template.segments.items[0] = Segment { offset: 8, length: 32 };
+    template.bytes[8..40].copy_from_slice(&packet[8..40]);
     plan
 }
 

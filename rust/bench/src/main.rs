@@ -163,12 +163,21 @@ impl Rows<'_> {
     }
 
     fn chains(&mut self, lists: &str, grants: &Grants) {
-        for count in [1, MOST_HEADERS / 2, MOST_HEADERS] {
-            let packet = chained_packet(&short_headers(count), MAX_PACKET);
-            self.tunnel(lists, grants, &packet, &format!("0, chain of {count}"), &Plan::default());
+        let chains = [
+            ("1 header", short_headers(1)),
+            ("91 headers", short_headers(MOST_HEADERS / 2)),
+            ("182 headers", short_headers(MOST_HEADERS)),
+            ("91 of 16 bytes", vec![(60, 1); 91]),
+            ("182 authentication", vec![(51, 0); MOST_HEADERS]),
+            ("121 authentication of 12 bytes", vec![(51, 1); 121]),
+            ("182 first fragments", vec![(44, 0); MOST_HEADERS]),
+        ];
+        for (name, headers) in chains {
+            let packet = chained_packet(&headers, MAX_PACKET);
+            self.tunnel(lists, grants, &packet, &format!("0, {name}"), &Plan::default());
         }
         let packet = chained_packet(&ACROSS_THE_FRONT, 576);
-        self.tunnel(lists, grants, &packet, "1, chain of 4", &chained_plan(&packet));
+        self.tunnel(lists, grants, &packet, "1, 4 headers", &chained_plan(&packet));
     }
 
     fn send(&mut self, lists: &str, grants: &Grants, packet: &[u8], templates: &str, plan: &Plan) -> Vec<u8> {
