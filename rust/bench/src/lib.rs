@@ -5,6 +5,7 @@ use whapirohi_differential::random::Random;
 use whapirohi_reference::capsule::MAX_VALUE;
 use whapirohi_reference::list::{MAX_ADDRESSES, MAX_RANGES};
 use whapirohi_reference::packet::{complete, fold, put_word, seed, sum, MAX_PACKET};
+use whapirohi_reference::plan::STATIC_LIMIT;
 use whapirohi_reference::{
     write_datagram, write_routes, AddressEntry, AddressList, Checksum, ContextId, Grants, List, Plan, RequestId,
     RouteList, RouteRange, Segment, Template,
@@ -174,15 +175,21 @@ pub fn chained_packet(headers: &[(u8, u8)], length: usize) -> Vec<u8> {
     packet
 }
 
-/// One template of both addresses: a chain has no bytes in common with the next.
-pub fn chained_plan(packet: &[u8]) -> Plan {
+/// What templates of a packet with a chain have: both addresses; or all of the front but its length and hop count.
+pub const ADDRESSES: [(usize, usize); 1] = [(8, 32)];
+pub const WHOLE_FRONT: [(usize, usize); 2] = [(6, 1), (8, STATIC_LIMIT - 8)];
+
+/// One template of these parts of a packet, as places and lengths.
+pub fn plan_of_parts(packet: &[u8], parts: &[(usize, usize)], checksum: Option<Checksum>) -> Plan {
     let mut plan = Plan::default();
     plan.templates.count = 1;
     let template = &mut plan.templates.items[0];
-    template.id = ContextId(2);
-    template.segments.count = 1;
-    template.segments.items[0] = Segment { offset: 8, length: 32 };
-    template.bytes[8..40].copy_from_slice(&packet[8..40]);
+    *template = Template { id: ContextId(2), checksum, ..Template::default() };
+    template.segments.count = parts.len();
+    for (segment, &(offset, length)) in template.segments.items.iter_mut().zip(parts) {
+        *segment = Segment { offset, length };
+        template.bytes[offset..offset + length].copy_from_slice(&packet[offset..offset + length]);
+    }
     plan
 }
 

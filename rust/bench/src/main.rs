@@ -7,9 +7,9 @@ use std::cell::RefCell;
 use std::hint::black_box;
 use std::time::{Duration, Instant};
 use whapirohi_bench::{
-    chained_packet, chained_plan, datagram_capsule, grants, network_lists, numbered_entries, packet, plan,
-    routes_capsule, short_headers, shuffled_ids, Family, Miss, ACROSS_THE_FRONT, MOST_DIFFERENT, MOST_ENTRIES,
-    MOST_HEADERS, MOST_OF_FOUR, SHORT_IDS,
+    chained_packet, datagram_capsule, grants, network_lists, numbered_entries, packet, plan, plan_of_parts,
+    routes_capsule, short_headers, shuffled_ids, Family, Miss, ACROSS_THE_FRONT, ADDRESSES, MOST_DIFFERENT,
+    MOST_ENTRIES, MOST_HEADERS, MOST_OF_FOUR, SHORT_IDS, WHOLE_FRONT,
 };
 use whapirohi_differential::subject::{Lent, Subject};
 use whapirohi_differential::words::{mirrored, state_of};
@@ -177,7 +177,9 @@ impl Rows<'_> {
             self.tunnel(lists, grants, &packet, &format!("0, {name}"), &Plan::default());
         }
         let packet = chained_packet(&ACROSS_THE_FRONT, 576);
-        self.tunnel(lists, grants, &packet, "1, 4 headers", &chained_plan(&packet));
+        for (name, parts) in [("both addresses", &ADDRESSES[..]), ("121 static bytes", &WHOLE_FRONT)] {
+            self.tunnel(lists, grants, &packet, &format!("1, 4 headers, {name}"), &plan_of_parts(&packet, parts, None));
+        }
     }
 
     fn send(&mut self, lists: &str, grants: &Grants, packet: &[u8], templates: &str, plan: &Plan) -> Vec<u8> {
