@@ -8,7 +8,7 @@ use native.Mathlib.Nat.{add-assoc}
 use native.Mathlib.Omega.{arith}
 use native.Mathlib.Numerals.{add-one}
 use lib.ListN.{length, getD, take, drop, set, length-set}
-use lib.Seq.{set-set, set-comm, set-getD, getD-set-other, take-set-lt, drop-set-lt, drop-set-add, set-append-left}
+use lib.Seq.{set-set, set-comm, set-getD, getD-set-same, getD-set-other, take-set-lt, drop-set-lt, drop-set-add, set-append-left}
 use lib.Dec.{eqb}
 use borrow.Author.Tests.{eqb-true, eqb-false, eq-eqb}
 use Rattle.answer.proofs.Tests.{and-both, only-false}
@@ -62,6 +62,24 @@ pub put-same : (l : List ℕ) (i v : ℕ) → getD l i 0 ≡ v / 256 → getD l 
 unfolding put16
 put-same l i v h k = rw (← h, ← k, set-getD, set-getD)
 
+-- a word whose low byte stands there already is put by its high byte
+pub put-high : (l : List ℕ) (i v : ℕ) → getD l (i + 1) 0 ≡ v % 256 → put16 l i v ≡ set l i (v / 256)
+unfolding put16
+put-high l i v e =
+    let k : getD (set l i (v / 256)) (i + 1) 0 ≡ v % 256 = getD-set-other l i (i + 1) (v / 256) 0 (omega arith) ∙ e in
+    rw (← k) (set-getD (set l i (v / 256)) (i + 1) 0)
+
+-- a word that was put is what stands there
+pub field-put : (l : List ℕ) (i v : ℕ) → i + 1 < length l → fieldOf i (put16 l i v) ≡ v
+unfolding put16
+field-put l i v h =
+    let k : length (set l i (v / 256)) ≡ length l = length-set l i (v / 256) in
+    let hi : getD (set (set l i (v / 256)) (i + 1) (v % 256)) i 0 ≡ v / 256 =
+    getD-set-other (set l i (v / 256)) (i + 1) i (v % 256) 0 (omega arith) ∙ getD-set-same l i (v / 256) 0 (omega arith)
+    in
+    let lo : getD (set (set l i (v / 256)) (i + 1) (v % 256)) (i + 1) 0 ≡ v % 256 = getD-set-same (set l i (v / 256)) (i + 1) (v % 256) 0 (omega arith) in
+    omega arith
+
 put-suc : (l : List ℕ) (i v : ℕ) → i % 2 ≡ 0 → suc i < length l → words (set (set l i (v / 256)) (suc i) (v % 256)) ≡ words (set (set l i 0) (suc i) 0) + v
 unfolding words
 put-suc [] i v e h = omega arith
@@ -74,6 +92,10 @@ put-suc (a ∷ b ∷ r) (suc (suc i)) v e h = omega (arith, put-suc r i v (omega
 pub words-put : (l : List ℕ) (i v : ℕ) → i % 2 ≡ 0 → i + 1 < length l → words (put16 l i v) ≡ words (put16 l i 0) + v
 unfolding put16
 words-put l i v e h = rw add-one (put-suc l i v e (omega arith))
+
+-- a word that stands at an even place counts as itself
+pub words-field : (l : List ℕ) (i : ℕ) → i % 2 ≡ 0 → i + 1 < length l → getD l (i + 1) 0 < 256 → words l ≡ words (put16 l i 0) + fieldOf i l
+words-field l i e h b = sym (ap words (put-same l i (fieldOf i l) (omega arith) (omega arith))) ∙ words-put l i (fieldOf i l) e h
 
 -- the complement of a sum, put where the sum took 0, completes it
 pub put-completes : (l : List ℕ) (i : ℕ) → i % 2 ≡ 0 → i + 1 < length l → 0 < words (put16 l i 0) → fold (words (put16 l i (65535 - fold (words (put16 l i 0))))) ≡ 65535

@@ -141,7 +141,7 @@ pub is-headed6 : (p : List ℕ) → Headed p → (versionOf p ≡ 4 → ⊥) →
 is-headed6 p f n = headed-kind-6 p (f .kind) n
 
 form-headed-kind : (p : List ℕ) → Form4 p ⊎ Form6 p → Headed p
-form-headed-kind p (inl f) = record { kind = inl (record { long = f .long; four = f .four; ihl = f .ihl; head = f .head }) }
+form-headed-kind p (inl f) = record { kind = inl (record { long = f .long; four = f .four; ihl = f .ihl; head = f .head; sum = f .sum }) }
 form-headed-kind p (inr f) = record { kind = inr (record { long = omega (arith, f .fixed .long); six = f .fixed .six }) }
 
 -- a packet of good form has it

@@ -44,7 +44,15 @@ module _ (k : ℕ) (p : List ℕ) (h : 60 ≤ k) where
   take-headed-kind : Form4 p ⊎ Form6 p → Headed (take k p)
   take-headed-kind (inl f) =
       let l = length-take k p in
-      record { kind = inl (record { long = omega arith; four = take-version ∙ f .four; ihl = rw take-first (f .ihl); head = rw take-first (omega arith) }) }
+      record {
+        kind = inl (record {
+          long = omega arith;
+          four = take-version ∙ f .four;
+          ihl = rw take-first (f .ihl);
+          head = rw take-first (omega arith);
+          sum = rw (take-first, take-take (headerLength p) k p (omega arith)) (f .sum);
+        });
+      }
   take-headed-kind (inr f) =
       let l = length-take k p in
       let g = f .fixed in

@@ -3,6 +3,7 @@ pub mod FormFacts
 pub mod HeaderLaws
 pub mod FieldLaws
 pub mod LoweredLaws
+pub mod UpdatedLaws
 pub mod TransportLaws
 pub mod FrontLaws
 pub mod AddressLaws

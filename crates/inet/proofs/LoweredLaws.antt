@@ -17,7 +17,7 @@ use Rattle.inet.specs.Packet.{protocolOf, protocolByte, isIcmp, hopsOf, 
 use Rattle.inet.proofs.WordLaws.{words-pos}
 use Rattle.inet.proofs.FormFacts.{form-facts, facts-form, form-4, form-6, is-headed4, is-headed6}
 use Rattle.inet.proofs.HeaderLaws.{pick-4, pick-6, hopsOf-4, hopsOf-not-4}
-use Rattle.inet.proofs.FieldLaws.{put-length, put-other, put-take, put-drop, put-put, put-completes}
+use Rattle.inet.proofs.FieldLaws.{put-length, put-other, put-take, put-drop, put-completes}
 
 -- a fact of either choice is a fact of what is chosen
 pick-elim : {A : Type 0} (P : A → Type 0) (b : Bool) (x y : A) → (b ≡ true → P x) → (b ≡ false → P y) → P (pick b x y)
@@ -214,13 +214,6 @@ lowered-form p e = facts-form (lowered p) (lowered-Form p (form-facts p e))
 
 pub lowered-hopsOf : (p : List ℕ) → Form p → hopsOf (lowered p) ≡ hopsOf p - 1
 lowered-hopsOf p f = kind-hops p (f .kind)
-
--- the steps by which the code lowers an IPv4 packet
-pub lower4-steps : (p q r : List ℕ) (f : ℕ) → q ≡ put16 (hop4 p) 10 0 → f ≡ fold (words (take (headerLength p) q)) → r ≡ put16 q 10 (65535 - f) → r ≡ lowered4 p
-unfolding lowered4 headerCheck
-lower4-steps p q r f e1 e2 e3 =
-    let e : getD (hop4 p) 0 0 ≡ getD p 0 0 = getD-set-other p 8 0 _ 0 (omega arith) in
-    rw (e3, e2, e1, put-put, e)
 
 -- the steps by which the code copies a packet and lowers the copy
 module _ (p e d : List ℕ) (c : e ≡ take (length p) p ++ d) where

@@ -7,24 +7,11 @@ use native.Mathlib.Numerals.{add-one}
 use lib.ListN.{length, take, drop, getD, drop-of-length-le}
 use lib.Seq.{drop-cons}
 use Rattle.inet.specs.Sum.{words, fold}
+use Rattle.inet.specs.SumLaws.{fold-quot, fold-past, fold-pos}
 
 pub fold-zero : fold 0 ≡ 0
 unfolding fold
 fold-zero = refl
-
--- a sum is its fold and a multiple of 65535
-pub fold-quot : (s : ℕ) → s ≡ fold s + 65535 * ((s - 1) / 65535)
-unfolding fold
-fold-quot s = omega arith
-
--- multiples of 65535 change no fold of a sum above 0
-pub fold-past : (s k : ℕ) → 0 < s → fold (s + 65535 * k) ≡ fold s
-unfolding fold
-fold-past s k h = omega arith
-
-pub fold-pos : (s : ℕ) → 0 < s → 0 < fold s
-unfolding fold
-fold-pos s h = omega arith
 
 -- folding a part first changes no fold
 pub fold-add : (a b : ℕ) → fold (fold a + b) ≡ fold (a + b)

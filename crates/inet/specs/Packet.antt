@@ -125,12 +125,13 @@ lowered4 p = put16 (hop4 p) 10 (headerCheck (hop4 p))
 unfoldable pub lowered : List ℕ → List ℕ
 lowered p = pick (eqb (versionOf p) 4) (lowered4 p) (pick (eqb (versionOf p) 6) (hop6 p) p)
 
--- a packet, or the front of one, with all of its IPv4 header, or with the hop limit of IPv6: no length, no sum
+-- a packet, or the front of one, with all of its IPv4 header, whose words sum to 65535, or with the hop limit of IPv6: no length
 pub record Headed4 (p : List ℕ) : Type 0 where
   pub long : 20 ≤ length p
   pub four : versionOf p ≡ 4
   pub ihl : 5 ≤ getD p 0 0 % 16
   pub head : headerLength p ≤ length p
+  pub sum : fold (words (take (headerLength p) p)) ≡ 65535
 
 pub record Headed6 (p : List ℕ) : Type 0 where
   pub long : 8 ≤ length p

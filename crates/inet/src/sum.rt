@@ -130,3 +130,11 @@ pub fn folded(sum: u64) -> u64
 {
     if sum == 0 { 0 } else { (sum - 1) % 65535 + 1 }
 }
+
+// The sum of two words folded: one end-around carry.
+pub(crate) fn folded_pair(sum: u64) -> u64
+    requires { ⌜ sum ≤ 131070 ⌝ }
+    ensures { λ r. ⌜ (r ≡ fold sum) × (r ≤ 65535) ⌝ }
+{
+    sum % 65536 + sum / 65536
+}

@@ -10,10 +10,10 @@ use lib.Seq.{getD-drop}
 use borrow.Author.Tests.{le-leb, lt-leb}
 use Rattle.octets.proofs.Parts.{tail}
 use Rattle.inet.specs.Sum.{words, fold}
-use Rattle.inet.specs.SumLaws.{fold-fits}
+use Rattle.inet.specs.SumLaws.{fold-fits, fold-pos}
 use Rattle.inet.specs.Packet.{protocolByte, put16, lowered}
 use Rattle.inet.specs.Transport.{pseudoSum, seed, setField, sent, finish, completion, fieldIs}
-use Rattle.inet.proofs.WordLaws.{fold-pos, fold-less}
+use Rattle.inet.proofs.WordLaws.{fold-less}
 use Rattle.inet.proofs.FieldLaws.{words-put, drop-put-from}
 use Rattle.inet.proofs.LoweredLaws.{lowered-length}
 use Rattle.inet.proofs.TransportLaws.{sent-udp, sent-other, sent-nonzero, setField-protocolByte, lowered-fieldIs, lowered-completion}

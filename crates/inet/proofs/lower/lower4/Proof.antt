@@ -1,34 +1,25 @@
--- The steps of the code are those of `lowered4`: the field taken as 0, the header's words, their fold, its complement (`lower4-steps`). Assumes nothing.
+-- The bytes that are put are those of `lowered4`: the updated checksum is the one made again (`lower4-steps`). Assumes nothing.
 use mathlib.Core.Path.{_≡_, ap, _∙_}
 use native.Mathlib.Omega.{arith}
-use lib.ListN.{length, length-set, length-take}
-use Rattle.inet.specs.Packet.{lowered4}
-use Rattle.inet.proofs.LoweredLaws.{lower4-steps, low4-length}
+use lib.ListN.{length, length-set}
 use borrow.Author.Needs.{needs}
+use Rattle.inet.specs.Packet.{lowered4}
+use Rattle.inet.proofs.LoweredLaws.{low4-length}
+use Rattle.inet.proofs.UpdatedLaws.{lower4-steps}
 use Rattle.inet.proofs.lower.lower4.Statement.{statement}
 use Rattle.inet.proofs.lower.lower4.Tie as tie
 
--- the packet's length is as it was after the first `put_word`
-long : (c : tie.After-put-word) → length (c .put-word .last .0) ≡ length (c .before .before .before .before .before .args .p .now)
-long c = omega (arith, simp length-set at (c .put-word .kept .0))
-
--- the four steps
-done : (c : tie.After-slice-known5) → c .before .before .put-word2 .last .0 ≡ lowered4 (c .before .before .before .before .before .before .before .before .before .before .before .before .before .before .args .p .now)
-done c =
-    lower4-steps _ _ _ _ (c .before .before .before .before .before .before .before .before .before .put-word .ensures)
-    (c .before .before .before .folded .ensures .0 ∙ c .before .before .before .before .before .sum-quads .ensures .0) (c .before .before .put-word2 .ensures)
-
-slice-read-n : tie.Need-slice-read-n
-slice-read-n c = search needs
-
-cast-n : tie.Need-cast-n
-cast-n c = search needs
-
-mul-n : tie.Need-mul-n
-mul-n c = search needs
-
 slice-read-hops : tie.Need-slice-read-hops
 slice-read-hops c = search needs
+
+slice-read-word : tie.Need-slice-read-word
+slice-read-word c = search needs
+
+slice-read-word-2 : tie.Need-slice-read-word-2
+slice-read-word-2 c = search needs
+
+word-requires : tie.Need-word-requires
+word-requires c κs = search needs
 
 sub-p : tie.Need-sub-p
 sub-p c = search needs
@@ -36,26 +27,18 @@ sub-p c = search needs
 slice-write-p : tie.Need-slice-write-p
 slice-write-p c = search needs
 
+after-hop-requires : tie.Need-after-hop-requires
+after-hop-requires c κs = search needs
+
 put-word-requires : tie.Need-put-word-requires
 put-word-requires c κs = simp length-set (omega arith)
 
-slice-reshare-prefix-sum-quads : tie.Need-slice-reshare-prefix-sum-quads
-slice-reshare-prefix-sum-quads c = omega (arith, long (c .before .before))
-
-slice-aggregate-sum-quads : tie.Need-slice-aggregate-sum-quads
-slice-aggregate-sum-quads c = simp length-take (omega (arith, long (c .before .before .before)))
-
-sum-quads-requires : tie.Need-sum-quads-requires
-sum-quads-requires c κs = simp length-take (omega (arith, long (c .before .before .before)))
-
-folded-requires : tie.Need-folded-requires
-folded-requires c κs = search needs
-
-sub-put-word : tie.Need-sub-put-word
-sub-put-word c = search needs
-
-put-word-requires-2 : tie.Need-put-word-requires-2
-put-word-requires-2 c κs = omega (arith, long (c .before .before .before .before .before .before))
+-- what the calls gave, put where the packet stood
+done : (c : tie.After-slice-known5) → c .before .before .put-word .last .0 ≡ lowered4 (c .before .before .before .before .before .before .before .before .before .before .args .p .now)
+done c =
+    let s = c .before .before .before .before .before .before .before .before .before .before in
+    lower4-steps (s .args .p .now) (s .pre .0) (λ i. omega (arith, c .before .before .before .before .before .before .before .before .before .slice-known .given i)) (s .pre .1)
+    (c .before .before .before .before .before .word .ensures .0) (c .before .before .before .after-hop .ensures .0) (c .before .before .put-word .ensures)
 
 same-length : tie.Need-same-length
 same-length c = ap length (done c) ∙ low4-length _
@@ -67,18 +50,13 @@ pub lower4-spec : {M : Type 1} → statement M
 lower4-spec =
     tie.close
     (tie.spec
-    slice-read-n
-    cast-n
-    mul-n
     slice-read-hops
+    slice-read-word
+    slice-read-word-2
+    word-requires
     sub-p
     slice-write-p
+    after-hop-requires
     put-word-requires
-    slice-reshare-prefix-sum-quads
-    slice-aggregate-sum-quads
-    sum-quads-requires
-    folded-requires
-    sub-put-word
-    put-word-requires-2
     same-length
     returns)
