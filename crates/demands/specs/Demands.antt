@@ -21,11 +21,15 @@ use Rattle.varint.specs.Numbers.{readNumber, encode, writeVerdict}
 use Rattle.octets.specs.Scan.{anyOf}
 use Rattle.chain.specs.declared.Carried.the-variants.{Protocol, BadForm}
 use Rattle.chain.specs.Chain.{plain, classOf, sizeOf, offsetOf, onward, behind, chain, chainOf}
+use Rattle.inet.specs.Sum.{fold}
+use Rattle.inet.specs.Update.{complement, equation3}
+use Rattle.inet.specs.UpdateLaws.{SecondDiffers, equation3-recomputes, second-differs}
 use Rattle.inet.specs.Packet.{versionOf, form, hopsOf, sourceOf, destinationOf, protocolOf, protocolByte, isIcmp, lowered}
 use Rattle.chain.proofs.ChainLaws.{chain-step, behind-shorter}
 use Rattle.inet.proofs.LoweredLaws.{lowered-chain}
 use Rattle.inet.proofs.ProtocolLaws.{chain-same, protocol-plain, past-bad, icmp-not, chain-first-fragment, chain-later-fragment}
-use Rattle.inet.specs.Transport.{damaged}
+use Rattle.inet.proofs.UpdatedLaws.{lowered-updates}
+use Rattle.inet.specs.Transport.{fieldOf, damaged}
 use Rattle.lists.specs.declared.AddressEntry.{AddressEntry}
 use Rattle.lists.specs.declared.RouteRange.{RouteRange}
 use Rattle.lists.specs.Words.{addressWords, routeWords, entriesOf, rangesOf}
@@ -462,6 +466,20 @@ later-fragment = chain-later-fragment
 
 pub no-other-icmp : (p : List ℕ) → versionOf p ≡ 6 → {n : ℕ} → chainOf p ≡ Protocol n → (n ≡ 58 → ⊥) → isIcmp p ≡ false
 no-other-icmp = icmp-not
+
+-- request 04: after a hop the IPv4 header checksum, made again from all the words, is the update of RFC 1624, equation 3, of the one that stood there
+pub hop-updates-checksum : (p : List ℕ) → Bytes p → versionOf p ≡ 4 → form p ≡ true → 1 ≤ hopsOf p
+    → fieldOf 10 (lowered p) ≡ equation3 (fieldOf 10 p) (fieldOf 8 p) (fieldOf 8 (lowered p))
+hop-updates-checksum = lowered-updates
+
+-- the same over numbers, for any word of a header that sums to 65535: hc is its checksum, and m becomes n; only FFFF may not become 0000
+pub update-recomputes : (hc m n others : ℕ) → hc ≤ 65535 → m ≤ 65535 → 0 < complement m + n → 0 < others + n → fold (others + m + hc) ≡ 65535
+    → equation3 hc m n ≡ complement (fold (others + n))
+update-recomputes = equation3-recomputes
+
+-- equation 2 does not do: a header of good form with the checksum FEFF, for which it gives FFFF, and the sum made again 0000
+pub equation2-differs : SecondDiffers
+equation2-differs = second-differs
 
 -- ---- 3. Short and full agree. The packet p passes: the number given back is 0; `datagramOf` is the n bytes that sending wrote
 module _ (s : State) (p out : List ℕ) (passed : Passes s p out) where
