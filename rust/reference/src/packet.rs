@@ -176,14 +176,19 @@ fn ipv6_at(header: &[u8; 40], at: usize) -> u128 {
     header[at..at + 16].iter().fold(0, |address, &b| address << 8 | u128::from(b))
 }
 
-/// Lowers the hop count by one and recomputes the IPv4 header checksum; `front` begins a packet of good form that has a hop left.
+/// The checksum of a header that had `checksum`, when one of its words changes: RFC 1624, equation 3.
+#[inline]
+pub fn updated(checksum: u16, old: u16, new: u16) -> u16 {
+    !fold(u32::from(!checksum) + u32::from(!old) + u32::from(new))
+}
+
+/// Lowers the hop count by one and updates the IPv4 header checksum; `front` begins a packet of good form that has a hop left.
 #[inline]
 pub fn lower(front: &mut [u8]) {
     if front[0] >> 4 == 4 {
+        let old = word_at(front, 8);
         front[8] -= 1;
-        put_word(front, 10, 0);
-        let header_length = 4 * usize::from(front[0] & 0x0f);
-        let checksum = !fold(sum(&front[..header_length]));
+        let checksum = updated(word_at(front, 10), old, word_at(front, 8));
         put_word(front, 10, checksum);
     } else {
         front[7] -= 1;

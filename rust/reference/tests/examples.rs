@@ -195,6 +195,57 @@ fn hop_counts() {
     }
 }
 
+/// RFC 1624, section 4: m goes from 5555 to 3285, and the other words fold to CD7A.
+#[test]
+fn update_of_rfc_1624() {
+    assert_eq!(!packet::fold(0xCD7A + 0x5555), 0xDD2F);
+    assert_eq!(packet::updated(0xDD2F, 0x5555, 0x3285), 0x0000);
+    assert_eq!(!packet::fold(0xCD7A + 0x3285), 0x0000);
+}
+
+/// Every header checksum, FFFF in the place of 0000 among them, and every hop count that passes: the update is the sum made again.
+#[test]
+fn update_is_the_sum_made_again() {
+    let sample = hex(&PACKET[..59]);
+    for checksum in 0..=0xffff_u16 {
+        for hops in 2..=255 {
+            let mut header = sample.clone();
+            header[8] = hops;
+            // The identification that makes up for the checksum.
+            packet::put_word(&mut header, 4, 0);
+            packet::put_word(&mut header, 10, checksum);
+            let identification = !packet::fold(packet::sum(&header));
+            packet::put_word(&mut header, 4, identification);
+            assert_eq!(packet::fold(packet::sum(&header)), 0xffff);
+            let mut wanted = header.clone();
+            wanted[8] -= 1;
+            packet::put_word(&mut wanted, 10, 0);
+            let again = !packet::fold(packet::sum(&wanted));
+            packet::put_word(&mut wanted, 10, again);
+            packet::lower(&mut header);
+            assert_eq!(header, wanted);
+        }
+    }
+}
+
+/// Checksums about those that a hop carries over, sent in full; the expected words were worked out by hand.
+#[test]
+fn header_checksums_about_the_carry() {
+    for (identification, stored, wanted) in [
+        (0x8EA0, 0x0000, 0x0100),
+        (0x8EA0, 0xFFFF, 0x0100),
+        (0x8FA0, 0xFEFF, 0x0000),
+        (0x8FA1, 0xFEFE, 0xFFFE),
+        (0x8F9F, 0xFF00, 0x0001),
+    ] {
+        let mut packet = hex("45 00 00 14 00 00 00 00 40 11 00 00 C0 00 02 03 C6 33 64 02");
+        packet::put_word(&mut packet, 4, identification);
+        packet::put_word(&mut packet, 10, stored);
+        let datagram = sent(&Plan::default(), &packet).unwrap();
+        assert_eq!(packet::word_at(&datagram[1..], 10), wanted);
+    }
+}
+
 #[test]
 fn one_plan_has_one_file() {
     let plan = read_plan(&hex(PLAN)).unwrap();
