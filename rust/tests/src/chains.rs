@@ -3,10 +3,10 @@
 use crate::capsules::number_form;
 use crate::compare::Run;
 use crate::lists::{open_grants, top};
-use crate::packets::{completion, seal_length, seal_transport};
+use crate::packets::{completion, lowered, seal_length, seal_transport};
 use crate::random::Random;
 use crate::words::{mirrored, state_of};
-use whapirohi_reference::packet::{lower, put_word, seed, word_at, MAX_PACKET};
+use whapirohi_reference::packet::{put_word, seed, word_at, MAX_PACKET};
 use whapirohi_reference::plan::STATIC_LIMIT;
 use whapirohi_reference::{Checksum, ContextId, Grants, List, Plan, RouteList, RouteRange, Segment, Template};
 use whapirohi_tunnel::{RECEIVE_ROOM, SEND_ROOM};
@@ -360,8 +360,7 @@ fn carry(run: &mut Run, random: &mut Random, scene: &Scene, packet: &[u8]) {
         Some(protocol) if scene.granted == 0 || protocol == scene.granted || protocol == ICMP => 0,
         Some(_) => 12,
     };
-    let mut lowered = packet.clone();
-    lower(&mut lowered);
+    let lowered = lowered(&packet);
     let template = template(scene, checksum, &lowered);
     let short = short_form(&template, &lowered);
     let full = [&[0][..], &lowered].concat();

@@ -7,7 +7,7 @@ use crate::lists::{
     count, damage_addresses, damage_lists, damage_routes, litter_addresses, litter_lists, litter_routes,
     sound_addresses, sound_grants, sound_routes,
 };
-use crate::packets::{datagram, scene, variation, Scene};
+use crate::packets::{datagram, lowered, scene, variation, Scene};
 use crate::pieces::{capsules_in_pieces, litter_store};
 use crate::plans::{damage_plan, damaged_file, litter_plan, litter_static_bytes, plan_file, sound_plan};
 use crate::random::Random;
@@ -17,7 +17,7 @@ use crate::words::{
 };
 use whapirohi_reference::capsule::MAX_VALUE;
 use whapirohi_reference::list::{MAX_ADDRESSES, MAX_RANGES};
-use whapirohi_reference::packet::{lower, word_at, MAX_PACKET};
+use whapirohi_reference::packet::{word_at, MAX_PACKET};
 use whapirohi_reference::{number, Plan};
 use whapirohi_tunnel::{AddressWords, State, ADDRESS_WORDS};
 use whapirohi_tunnel::{CAPSULE_ROOM, NUMBER_ROOM, PLAN_ROOM, RECEIVE_ROOM, SEND_ROOM};
@@ -75,7 +75,11 @@ pub const OCCASIONS: &[&str] = &[
     "sent short, 1,500 bytes",
     "sent short, Context ID of 8 bytes",
     "sent in full past templates",
-    "sent, header checksum 0000 or FFFF",
+    "sent, header checksum 0000",
+    "sent, header checksum FFFF",
+    "sent, header checksum FEFF",
+    "sent, header checksum with a carry",
+    "sent, header of 60 bytes",
     "received short, Context ID in a longer form",
     "received alike in both forms, passed",
     "received alike in both forms, refused",
@@ -442,8 +446,7 @@ fn cut_everywhere(run: &mut Run, random: &mut Random, state: &State, scene: &Sce
 /// Whoever receives it, the datagram is answered as the packet's full form is; under mirrored lists it comes out as the lowered packet.
 fn both_forms(run: &mut Run, random: &mut Random, receivers: &[State; 3], packet: &[u8], sent: &Written) {
     let datagram = sent.bytes().unwrap();
-    let mut lowered = packet.to_vec();
-    lower(&mut lowered);
+    let lowered = lowered(packet);
     let out = random.bytes(RECEIVE_ROOM);
     let home = run.receive(&receivers[0], datagram, &out);
     run.expect(home.bytes() == Some(&lowered), || "what was sent does not come out under mirrored lists".into());
@@ -469,8 +472,17 @@ fn occasions(run: &mut Run, plan: &Plan, packet: &[u8], sent: &Written) {
     let datagram = sent.bytes().unwrap();
     let (id, size) = number::parse(datagram).unwrap();
     let ipv4 = packet[0] >> 4 == 4;
-    if ipv4 && matches!(word_at(packet, 10), 0 | 0xffff) {
-        run.occasion("sent, header checksum 0000 or FFFF");
+    if ipv4 {
+        match word_at(packet, 10) {
+            0 => run.occasion("sent, header checksum 0000"),
+            0xffff => run.occasion("sent, header checksum FFFF"),
+            0xfeff => run.occasion("sent, header checksum FEFF"),
+            0xff00..=0xfffe => run.occasion("sent, header checksum with a carry"),
+            _ => {}
+        }
+        if packet[0] == 0x4f {
+            run.occasion("sent, header of 60 bytes");
+        }
     }
     if id == 0 {
         if plan.templates.count > 0 {

@@ -5,7 +5,7 @@ use crate::chains::{chain, damage_chain, Chain};
 use crate::lists::{address_in, address_of, open_grants, sound_grants, top, version};
 use crate::plans::{any_checksum, ids, segments};
 use crate::random::Random;
-use whapirohi_reference::packet::{complete, fold, is_udp, lower, put_word, seed, sum, word_at, MAX_PACKET};
+use whapirohi_reference::packet::{complete, fold, is_udp, put_word, seed, sum, word_at, MAX_PACKET};
 use whapirohi_reference::plan::{MAX_TEMPLATES, STATIC_LIMIT};
 use whapirohi_reference::tunnel::SEND_ROOM;
 use whapirohi_reference::{number, Checksum, ContextId, Grants, Plan, Template};
@@ -155,6 +155,15 @@ fn seal_header(packet: &mut [u8]) {
     }
 }
 
+/// The packet with one hop fewer, its IPv4 header checksum made again from all the words of the header: what every update must come to.
+pub fn lowered(packet: &[u8]) -> Vec<u8> {
+    let mut packet = packet.to_vec();
+    let hop = if packet[0] >> 4 == 4 { 8 } else { 7 };
+    packet[hop] -= 1;
+    seal_header(&mut packet);
+    packet
+}
+
 /// Where a template may look for a checksum: where UDP, TCP and ICMP have it, or anywhere.
 fn checksum_of(random: &mut Random, packet: &[u8]) -> Option<Checksum> {
     if random.once_in(5) {
@@ -193,12 +202,13 @@ fn settle(random: &mut Random, packet: &mut [u8], checksum: Option<Checksum>) {
         seal_transport(packet, c);
     }
     if packet[0] >> 4 == 4 && random.once_in(10) {
-        // An identification for which the header checksum is 0000, and FFFF as sound.
+        // An identification for which the header checksum is 0000, and FFFF as sound; or FEFF, which a hop makes 0000.
         put_word(packet, 4, 0);
         seal_header(packet);
-        let identification = word_at(packet, 10);
+        let checksum: u16 = random.pick(&[0, 0xffff, 0xfeff]);
+        let identification = fold(u32::from(word_at(packet, 10)) + u32::from(!checksum));
         put_word(packet, 4, identification);
-        put_word(packet, 10, random.pick(&[0, 0xffff]));
+        put_word(packet, 10, checksum);
     } else {
         seal_header(packet);
     }
@@ -219,8 +229,7 @@ pub fn seal_transport(packet: &mut [u8], c: Checksum) {
 
 /// Templates made from the packet as sending leaves it; some fit, some just not.
 fn plan_for(random: &mut Random, packet: &[u8], checksum: Option<Checksum>) -> Plan {
-    let mut lowered = packet.to_vec();
-    lower(&mut lowered);
+    let lowered = lowered(packet);
     let count = match random.below(6) {
         0 => 0,
         1 => MAX_TEMPLATES,

@@ -10,7 +10,7 @@ use whapirohi_differential::words::{address_list, address_words, grants_of, plan
 use whapirohi_reference::capsule::MAX_VALUE;
 use whapirohi_reference::list::{MAX_ADDRESSES, MAX_RANGES};
 use whapirohi_reference::number;
-use whapirohi_reference::packet::{complete, put_word, seed, sum, word_at, Header};
+use whapirohi_reference::packet::{complete, fold, put_word, seed, sum, word_at, Header};
 use whapirohi_reference::plan::STATIC_LIMIT;
 use whapirohi_tunnel::{AddressWords, Answer, Capsule, Number, Piece, RouteWords, State, ADDRESS_WORDS, KEPT_SIZE};
 
@@ -63,6 +63,9 @@ enum Slip {
     FlagsTakenAsOffset,
     ChainEndsWithTheFront,
     ChainReadForTheSeed,
+    HeaderChecksumByEquation2,
+    HeaderChecksumLosesItsCarry,
+    HeaderChecksumFfffKept,
 }
 
 /// The slips in how a packet with a chain is judged.
@@ -147,6 +150,19 @@ impl Wrong {
             out[0] ^= 1;
         }
         answer
+    }
+
+    /// The header checksum as the slip updates it, in the packet as it goes in full.
+    fn misupdate(&self, packet: &[u8], sent: &mut [u8]) {
+        let (checksum, old, new) = (word_at(packet, 10), word_at(packet, 8), word_at(sent, 8));
+        let slipped = match self.0 {
+            // HC + m + ~m'
+            Slip::HeaderChecksumByEquation2 => fold(u32::from(checksum) + u32::from(old) + u32::from(!new)),
+            Slip::HeaderChecksumLosesItsCarry => checksum.wrapping_add(0x0100),
+            Slip::HeaderChecksumFfffKept if checksum == 0xffff => 0xffff,
+            _ => return,
+        };
+        put_word(sent, 10, slipped);
     }
 
     /// What the slip answers of a packet's form, hop count and grants, where it is about chains and this packet may have one.
@@ -332,6 +348,9 @@ impl Subject for Wrong {
         let before = out.to_vec();
         let answer = Model.send(&state, &packet, out);
         let answer = self.misjudge(self.judged(&state, Way::Sent, &packet), answer, &before, out);
+        if answer.number == 0 && out[0] == 0 && packet[0] >> 4 == 4 {
+            self.misupdate(&packet, &mut out[1..]);
+        }
         self.wrote(answer, out)
     }
 
@@ -425,6 +444,9 @@ fn wrong_subjects_are_found_out() {
         Slip::LongestValueRefused,
         Slip::LongestStoreRefused,
         Slip::ChainReadForTheSeed,
+        Slip::HeaderChecksumByEquation2,
+        Slip::HeaderChecksumLosesItsCarry,
+        Slip::HeaderChecksumFfffKept,
     ]
     .into_iter()
     .chain(JUDGES)
