@@ -4,12 +4,15 @@
 
 use std::hint::black_box;
 use std::process::ExitCode;
-use whapirohi_bench::{chained_packet, grants, packet, plan, short_headers, Family, Miss, MOST_HEADERS};
+use whapirohi_bench::{
+    chained_packet, grants, packet, packet_with_options, plan, plan_behind, short_headers, Family, Miss,
+    LONGEST_HEADER, MOST_HEADERS,
+};
 use whapirohi_differential::subject::{Library, Subject};
 use whapirohi_differential::words::{mirrored, state_of};
 use whapirohi_reference::list::{MAX_ADDRESSES, MAX_RANGES};
 use whapirohi_reference::packet::MAX_PACKET;
-use whapirohi_reference::{receive, send};
+use whapirohi_reference::{receive, send, Plan};
 use whapirohi_tunnel::{RECEIVE_ROOM, SEND_ROOM};
 
 struct Row {
@@ -22,13 +25,23 @@ struct Row {
     templates: usize,
     /// The IPv6 headers of the packet's chain.
     headers: usize,
+    /// The bytes of the IPv4 header, where rows differ in them alone.
+    header: Option<usize>,
 }
 
 impl Row {
     fn packet(&self) -> Vec<u8> {
-        match self.headers {
-            0 => packet(self.family, self.length),
-            headers => chained_packet(&short_headers(headers), self.length),
+        match (self.headers, self.header) {
+            (0, Some(LONGEST_HEADER)) => packet_with_options(self.length),
+            (0, _) => packet(self.family, self.length),
+            (headers, _) => chained_packet(&short_headers(headers), self.length),
+        }
+    }
+
+    fn plan(&self) -> Plan {
+        match (self.templates, self.header) {
+            (1, Some(header)) => plan_behind(header, &self.packet()),
+            (templates, _) => plan(self.family, templates, Miss::EarlierPorts),
         }
     }
 }
@@ -42,15 +55,24 @@ const FIRST: Row = Row {
     ranges: 1,
     templates: 0,
     headers: 0,
+    header: None,
 };
 
+const SHORT_HEADER: Row = Row { name: "send-128-header-20", length: 128, header: Some(20), ..FIRST };
+const LONG_HEADER: Row = Row { name: "send-128-header-60", header: Some(LONGEST_HEADER), ..SHORT_HEADER };
 const LONG_IPV6: Row = Row { name: "send-1500-in-full-ipv6", family: Family::V6, length: MAX_PACKET, ..FIRST };
 
-const ROWS: [Row; 13] = [
+const ROWS: [Row; 19] = [
     FIRST,
     Row { name: "receive-1500-in-full", sending: false, length: MAX_PACKET, ..FIRST },
     Row { name: "send-64-by-a-template", templates: 1, ..FIRST },
     Row { name: "send-64-full-lists", addresses: MAX_ADDRESSES, ranges: MAX_RANGES, ..FIRST },
+    SHORT_HEADER,
+    LONG_HEADER,
+    Row { name: "receive-128-header-20", sending: false, ..SHORT_HEADER },
+    Row { name: "receive-128-header-60", sending: false, ..LONG_HEADER },
+    Row { name: "send-128-header-20-by-a-template", templates: 1, ..SHORT_HEADER },
+    Row { name: "send-128-header-60-by-a-template", templates: 1, ..LONG_HEADER },
     Row { name: "send-64-in-full-ipv6", family: Family::V6, ..FIRST },
     Row { name: "receive-1500-in-full-ipv6", family: Family::V6, sending: false, length: MAX_PACKET, ..FIRST },
     Row { name: "send-64-by-a-template-ipv6", family: Family::V6, templates: 1, ..FIRST },
@@ -92,8 +114,8 @@ fn usage() -> ExitCode {
 }
 
 fn by_library(row: &Row, calls: u32) {
-    let &Row { family, sending, addresses, ranges, templates, .. } = row;
-    let plan = plan(family, templates, Miss::EarlierPorts);
+    let &Row { family, sending, addresses, ranges, .. } = row;
+    let plan = row.plan();
     let state = state_of(&grants(family, addresses, ranges), &plan);
     let there = mirrored(&state);
     let packet = row.packet();
@@ -111,8 +133,8 @@ fn by_library(row: &Row, calls: u32) {
 }
 
 fn by_reference(row: &Row, calls: u32) {
-    let &Row { family, sending, addresses, ranges, templates, .. } = row;
-    let plan = plan(family, templates, Miss::EarlierPorts);
+    let &Row { family, sending, addresses, ranges, .. } = row;
+    let plan = row.plan();
     let here = grants(family, addresses, ranges);
     let there = here.mirrored();
     let packet = row.packet();

@@ -110,12 +110,30 @@ pub fn grants(family: Family, addresses: usize, ranges: usize) -> Grants {
 
 /// A UDP packet from port 1,000 to port 2,000 with a sound checksum.
 pub fn packet(family: Family, length: usize) -> Vec<u8> {
-    let header = family.header();
+    packet_behind(family, family.header(), length)
+}
+
+/// The longest header of IPv4.
+pub const LONGEST_HEADER: usize = 60;
+
+/// The same behind an IPv4 header of 60 bytes, its options such as say nothing.
+pub fn packet_with_options(length: usize) -> Vec<u8> {
+    packet_behind(Family::V4, LONGEST_HEADER, length)
+}
+
+/// One template of both addresses, both ports and the checksum of UDP, for an IPv4 packet with a header of so many bytes.
+pub fn plan_behind(header: usize, packet: &[u8]) -> Plan {
+    let checksum = Checksum { field: header + 6, start: header };
+    plan_of_parts(packet, &[(12, 8), (header, 4)], Some(checksum))
+}
+
+fn packet_behind(family: Family, header: usize, length: usize) -> Vec<u8> {
     let mut packet: Vec<u8> = (0..length).map(|n| (n * 7 + 3) as u8).collect();
     packet[..header].fill(0);
     match family {
         Family::V4 => {
-            packet[0] = 0x45;
+            packet[0] = 0x40 + (header / 4) as u8;
+            packet[20..header].fill(1);
             put_word(&mut packet, 2, length as u16);
             packet[8] = 64;
             packet[9] = UDP;
@@ -138,7 +156,7 @@ pub fn packet(family: Family, length: usize) -> Vec<u8> {
     let checksum = complete(sum(&packet[header..]) + u32::from(seed(&packet, length, header)), true);
     put_word(&mut packet, header + 6, checksum);
     if family == Family::V4 {
-        let checksum = !fold(sum(&packet[..20]));
+        let checksum = !fold(sum(&packet[..header]));
         put_word(&mut packet, 10, checksum);
     }
     packet

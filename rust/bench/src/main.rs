@@ -7,9 +7,9 @@ use std::cell::RefCell;
 use std::hint::black_box;
 use std::time::{Duration, Instant};
 use whapirohi_bench::{
-    chained_packet, datagram_capsule, grants, network_lists, numbered_entries, packet, plan, plan_of_parts,
-    routes_capsule, short_headers, shuffled_ids, Family, Miss, ACROSS_THE_FRONT, ADDRESSES, MOST_DIFFERENT,
-    MOST_ENTRIES, MOST_HEADERS, MOST_OF_FOUR, SHORT_IDS, WHOLE_FRONT,
+    chained_packet, datagram_capsule, grants, network_lists, numbered_entries, packet, packet_with_options, plan,
+    plan_behind, plan_of_parts, routes_capsule, short_headers, shuffled_ids, Family, Miss, ACROSS_THE_FRONT, ADDRESSES,
+    MOST_DIFFERENT, MOST_ENTRIES, MOST_HEADERS, MOST_OF_FOUR, SHORT_IDS, WHOLE_FRONT,
 };
 use whapirohi_differential::subject::{Lent, Subject};
 use whapirohi_differential::words::{mirrored, state_of};
@@ -88,6 +88,10 @@ fn main() {
         }
     }
     let mut rows = Rows { ratios: &mut ratios, searches: false };
+    println!("\nIPv4 packets with headers of 20 and of 60 bytes.\n");
+    println!("| call | packet | templates | lists | proved | Rust | ratio |");
+    println!("|---|---:|---|---|---:|---:|---:|");
+    rows.options("1", &grants(Family::V4, 1, 1));
     println!("\nIPv6 packets with chains of headers: in full, and by one template where the chain goes on behind byte {STATIC_LIMIT}.\n");
     println!("| call | packet | templates | lists | proved | Rust | ratio |");
     println!("|---|---:|---|---|---:|---:|---:|");
@@ -160,6 +164,16 @@ impl Rows<'_> {
             || receive(black_box(&there), black_box(plan), black_box(&datagram), black_box(&mut other)).unwrap_or(0),
         );
         self.row("receive", packet.len(), templates, lists, times);
+    }
+
+    fn options(&mut self, lists: &str, grants: &Grants) {
+        for length in [128, 576, MAX_PACKET] {
+            for packet in [packet(Family::V4, length), packet_with_options(length)] {
+                let header = 4 * usize::from(packet[0] & 0x0f);
+                self.tunnel(lists, grants, &packet, &format!("0, header of {header}"), &Plan::default());
+                self.tunnel(lists, grants, &packet, &format!("1, header of {header}"), &plan_behind(header, &packet));
+            }
+        }
     }
 
     fn chains(&mut self, lists: &str, grants: &Grants) {
