@@ -2,7 +2,7 @@
 use mathlib.Core.Path.{_≡_, refl, sym, ap, _∙_}
 use mathlib.Core.Bool.{true}
 use mathlib.Core.List.{List, [], _∷_}
-use Prim.Native.Nat.{ℕ, _+_, _-_, _*_, _/_, _≤_, _<_}
+use Prim.Native.Nat.{ℕ, _+_, _-_, _*_, _/_, _%_, _≤_, _<_}
 use native.Mathlib.Omega.{arith}
 use Rattle.inet.specs.Sum.{words, fold}
 use Rattle.inet.specs.SumLaws.{fold-quot, fold-past, fold-pos}
@@ -34,6 +34,11 @@ pub equation3-hop : (hc m : ℕ) → 256 ≤ m → m ≤ 65535 → equation3 hc 
 equation3-hop hc m h k =
     let e : complement hc + complement m + (m - 256) ≡ complement hc + hopFewer = omega arith in
     ap (λ (s : ℕ). complement (fold s)) e
+
+-- it is 256 more, modulo 65535
+pub after-hop-more : (hc : ℕ) → hc ≤ 65535 → afterHop hc ≡ (hc + 256) % 65535
+unfolding fold
+after-hop-more hc h = omega arith
 
 -- FFFF that becomes 0000, in a header with the checksum FFFF: the others fold to 65535, so that the sum made again is 0000
 all-ones-gone : equation3 0xffff 0xffff 0x0000 ≡ 0xffff
