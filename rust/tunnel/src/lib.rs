@@ -11,6 +11,12 @@ mod library;
 #[cfg(feature = "link")]
 pub use library::{kept_size, read_number, state_size, write_datagram, write_number, write_request};
 
+mod names;
+mod values;
+pub use names::{kind, number, reason, REASONS};
+pub use values::{address_words, entries, plan_words, ranges, route_words, templates};
+pub use values::{Checksum, Entry, Range, Segment, Span, Template};
+
 /// The limits of lists and plans.
 pub const MAX_ADDRESSES: usize = 32;
 pub const MAX_RANGES: usize = 256;
@@ -85,8 +91,8 @@ pub struct Number {
     pub size: u64,
 }
 
-/// A capsule that was read. `kind`: 0 DATAGRAM, 1 ADDRESS_ASSIGN, 2 ADDRESS_REQUEST, 3 ROUTE_ADVERTISEMENT, 4 any other type. `start` and
-/// `length`: where the value of a DATAGRAM stands in the bytes. `next`: where the next capsule starts; with a refusal the place as it was.
+/// A capsule that was read. `kind`: one of [`kind`]. `start` and `length`: where the value of a DATAGRAM stands in the bytes. `next`: where the
+/// next capsule starts; with a refusal the place as it was.
 #[derive(Clone, Copy, Debug, PartialEq, Eq)]
 #[repr(C)]
 pub struct Capsule {
@@ -116,7 +122,7 @@ pub struct Refusal(pub u64);
 
 impl std::fmt::Display for Refusal {
     fn fmt(&self, f: &mut std::fmt::Formatter<'_>) -> std::fmt::Result {
-        write!(f, "refused {}", self.0)
+        write!(f, "refused {}: {}", self.0, reason(self.0))
     }
 }
 
@@ -126,7 +132,7 @@ impl Answer {
     /// How many bytes were written.
     pub fn written(self) -> Result<usize, Refusal> {
         match self.number {
-            0 => Ok(self.length as usize),
+            number::DONE => Ok(self.length as usize),
             number => Err(Refusal(number)),
         }
     }
