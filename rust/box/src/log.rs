@@ -1,0 +1,118 @@
+//! The log, on standard error. Refused packets take at most ten lines a second of it.
+
+use std::fmt::Display;
+use std::io::Write;
+use std::net::{Ipv4Addr, Ipv6Addr};
+use std::time::{Duration, Instant};
+
+const LINES: u32 = 10;
+const PERIOD: Duration = Duration::from_secs(1);
+
+/// A line of the log. Where nobody reads it, the box goes on.
+pub fn say(line: impl Display) {
+    let _ = writeln!(std::io::stderr(), "{line}");
+}
+
+/// Lines that come in any number, of which ten a second are kept to be written, and the others counted.
+#[derive(Debug)]
+pub struct Limit {
+    since: Instant,
+    admitted: u32,
+    held_back: u64,
+    lines: Vec<String>,
+}
+
+impl Limit {
+    pub fn new(now: Instant) -> Limit {
+        Limit { since: now, admitted: 0, held_back: 0, lines: Vec::new() }
+    }
+
+    /// Keeps a line, or counts it.
+    pub fn admit(&mut self, now: Instant, line: impl FnOnce() -> String) {
+        self.turn(now);
+        if self.admitted < LINES {
+            self.keep(line());
+        } else {
+            self.held_back += 1;
+        }
+    }
+
+    /// The lines to be written now; where a second is over, how many were held back in it.
+    pub fn take(&mut self, now: Instant) -> Vec<String> {
+        self.turn(now);
+        std::mem::take(&mut self.lines)
+    }
+
+    /// When there is something to be said of lines that were held back.
+    pub fn due(&self) -> Option<Instant> {
+        (self.held_back > 0).then(|| self.since + PERIOD)
+    }
+
+    fn keep(&mut self, line: String) {
+        self.admitted += 1;
+        self.lines.push(line);
+    }
+
+    fn turn(&mut self, now: Instant) {
+        if now.duration_since(self.since) >= PERIOD {
+            let held_back = std::mem::take(&mut self.held_back);
+            (self.since, self.admitted) = (now, 0);
+            if held_back > 0 {
+                self.keep(format!("{held_back} more refused packets"));
+            }
+        }
+    }
+}
+
+/// Addresses and protocol of a packet, or of what is there of it.
+pub fn describe(packet: &[u8]) -> String {
+    match packet.first().map(|first| first >> 4) {
+        Some(4) if packet.len() >= 20 => {
+            let address = |at: usize| Ipv4Addr::new(packet[at], packet[at + 1], packet[at + 2], packet[at + 3]);
+            format!("{} > {} protocol {}, {} bytes", address(12), address(16), packet[9], packet.len())
+        }
+        Some(6) if packet.len() >= 40 => {
+            let address = |at: usize| {
+                packet[at..at + 16].try_into().map_or(Ipv6Addr::UNSPECIFIED, <Ipv6Addr as From<[u8; 16]>>::from)
+            };
+            format!("{} > {} protocol {}, {} bytes", address(8), address(24), packet[6], packet.len())
+        }
+        _ => format!("no IP header, {} bytes", packet.len()),
+    }
+}
+
+#[cfg(test)]
+mod tests {
+    use super::*;
+
+    #[test]
+    fn ten_lines_a_second() {
+        let start = Instant::now();
+        let mut limit = Limit::new(start);
+        for i in 0..1000 {
+            limit.admit(start + i * Duration::from_micros(500), || "x".to_string());
+        }
+        assert_eq!(limit.take(start + PERIOD / 2), ["x"; 10]);
+        assert_eq!(limit.due(), Some(start + PERIOD));
+        // The line that counts is one of the ten.
+        (0..20).for_each(|_| limit.admit(start + PERIOD, || "y".to_string()));
+        let next = limit.take(start + PERIOD);
+        assert_eq!((next.len(), next[0].as_str(), next[9].as_str()), (10, "990 more refused packets", "y"));
+        assert_eq!(limit.take(start + 2 * PERIOD), ["11 more refused packets"]);
+        assert_eq!((limit.due(), limit.take(start + 9 * PERIOD)), (None, Vec::new()));
+    }
+
+    #[test]
+    fn packets_in_words() {
+        let mut packet = [0; 40];
+        packet[0] = 0x45;
+        packet[9] = 17;
+        packet[12..20].copy_from_slice(&[192, 0, 2, 3, 198, 51, 100, 2]);
+        assert_eq!(describe(&packet), "192.0.2.3 > 198.51.100.2 protocol 17, 40 bytes");
+        packet[0] = 0x60;
+        assert_eq!(describe(&packet), "11:0:c000:203:c633:6402:: > :: protocol 0, 40 bytes");
+        for (bytes, length) in [(&packet[..39], 39), (&[0x45; 19][..], 19), (&[], 0), (&[0x50; 60][..], 60)] {
+            assert_eq!(describe(bytes), format!("no IP header, {length} bytes"));
+        }
+    }
+}

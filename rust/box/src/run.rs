@@ -1,0 +1,537 @@
+//! `whapirohi run`: packets between a TUN device and a UDP socket, capsules over a TCP stream, until a signal ends it.
+//!
+//! One thread waits for all files. Packets are carried while a stream is up; when it breaks, all grants are gone, and both ends begin again
+//! from a fresh state on the next stream.
+
+use crate::apply::{self, Wanted};
+use crate::config::{Apply, Config, Stream, MTU_LEAST_IPV6};
+use crate::end::{End, Event};
+use crate::greeting;
+use crate::log::say;
+use crate::stream::{Arrived, Connection};
+use crate::sys::{self, Batch, Watch, BATCH, ROOM};
+use std::fs::File;
+use std::io::{ErrorKind, Read, Write};
+use std::net::{IpAddr, SocketAddr, TcpListener, TcpStream, UdpSocket};
+use std::os::linux::net::SocketAddrExt;
+use std::os::unix::net::{SocketAddr as UnixAddress, UnixListener, UnixStream};
+use std::time::{Duration, Instant};
+use whapirohi_tunnel::{reason, templates, write_number, Entry, Range, Refusal, State, MAX_PACKET, NUMBER_ROOM};
+
+/// The pauses before the stream is connected again: each twice the one before.
+const FIRST_PAUSE: Duration = Duration::from_secs(1);
+const LONGEST_PAUSE: Duration = Duration::from_secs(30);
+
+/// A stream that was up this long begins with the first pause again.
+const SETTLED: Duration = Duration::from_secs(60);
+
+/// How long connecting and the peer's first line may take.
+const PATIENCE: Duration = Duration::from_secs(10);
+
+/// A peer that does not answer for this many seconds is gone.
+const SILENCE: u32 = 30;
+
+/// Room for bursts at the socket.
+const SOCKET_BUFFER: usize = 4 << 20;
+
+/// Headers around a datagram: IPv4 or IPv6, and UDP.
+const OUTER4: usize = 20 + 8;
+const OUTER6: usize = 40 + 8;
+
+/// How a run ended without a failure.
+#[derive(Clone, Copy, Debug, PartialEq, Eq)]
+pub enum Ending {
+    Signal,
+    PlansDiffer,
+}
+
+/// Where the stream stands.
+enum Link {
+    /// A listening end waits for its peer.
+    Listening,
+    /// A connecting end waits until then.
+    Paused(Instant),
+    Connecting(TcpStream, Instant),
+    Open(Box<Connection>),
+}
+
+struct Host {
+    config: Config,
+    end: End,
+    signals: File,
+    tun: File,
+    udp: Option<UdpSocket>,
+    control: UnixListener,
+    listener: Option<TcpListener>,
+    link: Link,
+    pause: Duration,
+    /// Datagrams to the link and from it.
+    out: Batch,
+    arrived: Batch,
+    packet: Box<[u8]>,
+    device: Device,
+}
+
+/// What is put on the device: what the peer gave last, also while the stream is down.
+#[derive(Default)]
+struct Device {
+    addresses: Vec<Entry>,
+    routes: Vec<Range>,
+    applied: Wanted,
+}
+
+/// Runs an end until a signal, different plans, or a failure.
+pub fn run(config: Config) -> Result<Ending, String> {
+    let mut host = Host::open(config)?;
+    let mut watch = Watch::default();
+    loop {
+        if let Some(ending) = host.turn(&mut watch)? {
+            host.write_log(Instant::now());
+            host.clear_device();
+            return Ok(ending);
+        }
+    }
+}
+
+/// The counters of the end that runs on a device, in this network namespace.
+pub fn counters(device: &str) -> Result<String, String> {
+    let mut text = String::new();
+    let result = control_address(device).and_then(|address| UnixStream::connect_addr(&address));
+    result
+        .and_then(|mut stream| stream.read_to_string(&mut text))
+        .map_err(|error| format!("no box runs on {device} in this network namespace: {error}"))?;
+    Ok(text)
+}
+
+/// A name that goes with its process, a namespace each, as devices do.
+fn control_address(device: &str) -> std::io::Result<UnixAddress> {
+    UnixAddress::from_abstract_name(format!("whapirohi.{device}"))
+}
+
+fn open_udp(config: &Config) -> Result<UdpSocket, String> {
+    let failed = |what: String| move |error| format!("udp: cannot {what}: {error}");
+    let udp = UdpSocket::bind(config.local).map_err(failed(format!("bind {}", config.local)))?;
+    udp.connect(config.peer).map_err(failed(format!("reach {}", config.peer)))?;
+    udp.set_nonblocking(true).map_err(failed("be set up".to_string()))?;
+    sys::widen_buffers(&udp, SOCKET_BUFFER);
+    Ok(udp)
+}
+
+/// The longest packets whose datagrams the link takes whole: its MTU, less the outer headers and the longest Context ID.
+fn fitting_mtu(config: &Config, udp: &UdpSocket) -> Result<usize, String> {
+    let link = sys::path_mtu(udp, config.peer).map_err(|error| format!("udp: cannot learn the link's MTU: {error}"))?;
+    let outer = if config.peer.is_ipv4() { OUTER4 } else { OUTER6 };
+    Ok(link.saturating_sub(outer + longest_id(config)).min(MAX_PACKET))
+}
+
+/// The bytes of the longest Context ID; that of a full datagram takes 1.
+fn longest_id(config: &Config) -> usize {
+    let mut state = State::new();
+    if let Some((_, file)) = &config.plan {
+        state.load_plan(file);
+    }
+    let size = |id| write_number(id, &mut [0; NUMBER_ROOM]).length as usize;
+    templates(&state.plan).unwrap_or_default().iter().map(|template| size(template.context_id)).fold(1, usize::max)
+}
+
+impl Host {
+    fn open(config: Config) -> Result<Host, String> {
+        let signals = sys::signals().map_err(|error| format!("cannot take signals: {error}"))?;
+        let end = End::new(&config).map_err(|refusal| format!("plan: {refusal}"))?;
+        let control = control_address(&config.tun)
+            .and_then(|address| UnixListener::bind_addr(&address))
+            .map_err(|error| format!("tun {}: another box runs on it? {error}", config.tun))?;
+        let udp = open_udp(&config)?;
+        let fitting = fitting_mtu(&config, &udp)?;
+        let mtu = config.mtu.unwrap_or(fitting);
+        let listener = match config.stream {
+            Stream::Connect(_) => None,
+            Stream::Listen(address) => {
+                Some(TcpListener::bind(address).map_err(|error| format!("listen {address}: {error}"))?)
+            }
+        };
+        let tun = sys::open_tun(&config.tun).map_err(|error| format!("tun {}: {error}", config.tun))?;
+        sys::bring_up(&udp, &config.tun, mtu)
+            .map_err(|error| format!("tun {}: cannot bring it up with an MTU of {mtu}: {error}", config.tun))?;
+        let set_up = |result: std::io::Result<()>| result.map_err(|error| format!("cannot set up a socket: {error}"));
+        set_up(control.set_nonblocking(true))?;
+        if let Some(listener) = &listener {
+            set_up(listener.set_nonblocking(true))?;
+        }
+        say(format_args!("tun {} mtu {mtu}, udp {} to {}", config.tun, config.local, config.peer));
+        if mtu > fitting {
+            say(format_args!(
+                "packets over {fitting} bytes take two datagrams of the link: an mtu of {fitting} is better"
+            ));
+        }
+        if mtu < MTU_LEAST_IPV6 {
+            say(format_args!("the device carries no IPv6, which needs an mtu of {MTU_LEAST_IPV6}"));
+        }
+        let link = match config.stream {
+            Stream::Listen(address) => {
+                say(format_args!("listening on {address}"));
+                Link::Listening
+            }
+            Stream::Connect(_) => Link::Paused(Instant::now()),
+        };
+        Ok(Host {
+            config,
+            end,
+            signals,
+            tun,
+            udp: Some(udp),
+            control,
+            listener,
+            link,
+            pause: FIRST_PAUSE,
+            out: Batch::default(),
+            arrived: Batch::default(),
+            packet: vec![0; ROOM].into(),
+            device: Device::default(),
+        })
+    }
+
+    /// Waits for one thing or more, and does what is to be done.
+    fn turn(&mut self, watch: &mut Watch) -> Result<Option<Ending>, String> {
+        watch.clear();
+        let signals = watch.add(&self.signals, true, false);
+        let control = watch.add(&self.control, true, false);
+        // While datagrams wait for the link, the device's packets wait in its queue.
+        let tun = (!self.out.waits()).then(|| watch.add(&self.tun, true, false));
+        let udp = self.udp.as_ref().map(|udp| watch.add(udp, true, self.out.waits()));
+        let listener = self.listener.as_ref().map(|listener| watch.add(listener, true, false));
+        let stream = match &self.link {
+            Link::Connecting(stream, _) => Some(watch.add(stream, false, true)),
+            Link::Open(connection) => Some(watch.add(&connection.stream, connection.wants_more(), connection.waits())),
+            Link::Listening | Link::Paused(_) => None,
+        };
+        watch.wait(self.wait()).map_err(|error| format!("cannot wait: {error}"))?;
+        let ready = |place: Option<usize>| place.is_some_and(|place| watch.ready(place));
+
+        if ready(tun) {
+            self.carry_out()?;
+        }
+        if ready(udp) {
+            self.carry_in();
+        }
+        if ready(Some(signals)) && self.signal() {
+            return Ok(Some(Ending::Signal));
+        }
+        if ready(Some(control)) {
+            self.answer_control();
+        }
+        if ready(stream) && self.serve_stream()? {
+            return Ok(Some(Ending::PlansDiffer));
+        }
+        if ready(listener) {
+            self.accept()?;
+        }
+        self.due(Instant::now())?;
+        Ok(None)
+    }
+
+    /// How long to wait, in milliseconds: until the next thing is due.
+    fn wait(&self) -> i32 {
+        let due = match &self.link {
+            Link::Listening => None,
+            Link::Paused(until) => Some(*until),
+            Link::Connecting(_, until) => Some(*until),
+            Link::Open(connection) => connection.deadline,
+        };
+        match due.into_iter().chain(self.end.log.due()).min() {
+            None => -1,
+            // A millisecond more, so as not to wake before it.
+            Some(until) => until.saturating_duration_since(Instant::now()).as_millis() as i32 + 1,
+        }
+    }
+
+    /// Packets of the tablets, to the link.
+    fn carry_out(&mut self) -> Result<(), String> {
+        for _ in 0..BATCH {
+            let Some(slot) = self.out.slot() else { break };
+            match (&self.tun).read(&mut self.packet) {
+                Ok(length) => {
+                    if let Some(length) = self.end.send(&self.packet[..length], slot) {
+                        self.out.push(length);
+                    }
+                }
+                Err(error) if error.kind() == ErrorKind::WouldBlock => break,
+                Err(error) if error.kind() == ErrorKind::Interrupted => {}
+                Err(error) => return Err(format!("tun {}: {error}", self.config.tun)),
+            }
+        }
+        self.send_waiting();
+        Ok(())
+    }
+
+    /// Sends what waits for the link. What the link refuses is dropped; what it has no room for goes on waiting.
+    fn send_waiting(&mut self) {
+        let Some(udp) = &self.udp else { return };
+        while let Err(error) = self.out.send(udp) {
+            match error.kind() {
+                ErrorKind::WouldBlock => return,
+                ErrorKind::Interrupted => {}
+                _ => {
+                    self.end.counters.link += 1;
+                    self.out.skip();
+                }
+            }
+        }
+    }
+
+    /// Datagrams of the link, to the device.
+    fn carry_in(&mut self) {
+        self.send_waiting();
+        let Some(udp) = &self.udp else { return };
+        match self.arrived.receive(udp) {
+            Ok(()) => {}
+            Err(error) if [ErrorKind::WouldBlock, ErrorKind::Interrupted].contains(&error.kind()) => return,
+            // The peer's host said that a datagram did not get through.
+            Err(_) => {
+                self.end.counters.link += 1;
+                return;
+            }
+        }
+        for i in 0..self.arrived.len() {
+            if let Some(length) = self.end.receive(self.arrived.datagram(i), &mut self.packet) {
+                if (&self.tun).write(&self.packet[..length]).is_err() {
+                    self.end.counters.device += 1;
+                }
+            }
+        }
+    }
+
+    /// Whether a signal ends the run.
+    fn signal(&mut self) -> bool {
+        while let Some(signal) = sys::signal(&self.signals) {
+            if signal == sys::SIGUSR1 {
+                say(self.end.counters.to_string().trim_end());
+            } else {
+                say(format_args!("ended by {}", if signal == sys::SIGINT { "SIGINT" } else { "SIGTERM" }));
+                return true;
+            }
+        }
+        false
+    }
+
+    fn answer_control(&mut self) {
+        if let Ok((mut stream, _)) = self.control.accept() {
+            // The text is far smaller than a socket's buffer: a reader that does not read holds nothing up.
+            let _ = stream.set_nonblocking(true);
+            let _ = stream.write_all(self.end.counters.to_string().as_bytes());
+        }
+    }
+
+    /// A connection of the peer; a newer one takes the place of an older one, whose peer may be gone without a word.
+    fn accept(&mut self) -> Result<(), String> {
+        let Some(Ok((stream, from))) = self.listener.as_ref().map(TcpListener::accept) else { return Ok(()) };
+        if from.ip().to_canonical() != self.config.peer.ip().to_canonical() {
+            say(format_args!("a connection from {from}, which is not the peer, is closed"));
+            return Ok(());
+        }
+        if matches!(self.link, Link::Open(_)) {
+            self.down(format_args!("the peer connected again"))?;
+        }
+        self.begin(stream, from)
+    }
+
+    /// A connection stands: the greeting goes out.
+    fn begin(&mut self, stream: TcpStream, peer: SocketAddr) -> Result<(), String> {
+        let set_up = stream
+            .set_nonblocking(true)
+            .and_then(|()| stream.set_nodelay(true))
+            .and_then(|()| sys::notice_silence(&stream, SILENCE));
+        if let Err(error) = set_up {
+            return self.down(format_args!("{error}"));
+        }
+        self.end.start().map_err(|refusal| format!("plan: {refusal}"))?;
+        // The way to the peer may be another than before: its source address is chosen again.
+        (self.udp, self.out) = (None, Batch::default());
+        let udp = open_udp(&self.config);
+        let line = greeting::line(self.end.plan());
+        self.link = Link::Open(Box::new(Connection::new(stream, &line, Instant::now() + PATIENCE)));
+        match udp {
+            Err(error) => self.down(format_args!("{error}")),
+            Ok(udp) => {
+                self.udp = Some(udp);
+                say(format_args!("connected with {peer}"));
+                Ok(())
+            }
+        }
+    }
+
+    /// The stream can be read or written, or is broken. Whether the plans differ.
+    fn serve_stream(&mut self) -> Result<bool, String> {
+        match std::mem::replace(&mut self.link, Link::Listening) {
+            Link::Connecting(stream, _) => {
+                let failed = stream.take_error().unwrap_or_else(Some);
+                match (failed, stream.peer_addr()) {
+                    (None, Ok(peer)) => self.begin(stream, peer)?,
+                    (failed, peer) => {
+                        let error =
+                            failed.or(peer.err()).map_or("cannot connect".to_string(), |error| error.to_string());
+                        self.paused(format_args!("cannot connect: {error}"));
+                    }
+                }
+            }
+            Link::Open(mut connection) => {
+                let arrived = connection.arrive();
+                self.link = Link::Open(connection);
+                return self.arrived(arrived);
+            }
+            other => self.link = other,
+        }
+        Ok(false)
+    }
+
+    fn arrived(&mut self, arrived: Arrived) -> Result<bool, String> {
+        match arrived {
+            Arrived::Nothing => {}
+            Arrived::Plan(Ok(plan), rest) => {
+                if plan != self.end.plan() {
+                    self.plans_differ(&plan);
+                    return Ok(true);
+                }
+                self.up()?;
+                self.feed(&rest)?;
+            }
+            Arrived::Plan(Err(reason), _) => self.down(format_args!("{reason}"))?,
+            Arrived::Capsules(bytes) => self.feed(&bytes)?,
+            Arrived::Closed(reason) => {
+                let middle = if self.end.capsule_is_open() { ", in the middle of a capsule" } else { "" };
+                self.down(format_args!("{reason}{middle}"))?;
+            }
+        }
+        Ok(false)
+    }
+
+    /// The peer's plan is ours: the capsules go out, and packets are carried.
+    fn up(&mut self) -> Result<(), String> {
+        let opening = self.end.opening().map_err(|refusal| format!("the lists: {refusal}"))?;
+        self.end.counters.up = true;
+        self.end.counters.connections += 1;
+        if let Link::Open(connection) = &mut self.link {
+            connection.greeted(Instant::now());
+            connection.send(&opening);
+        }
+        say("stream up");
+        self.put_on_device();
+        Ok(())
+    }
+
+    fn feed(&mut self, bytes: &[u8]) -> Result<(), String> {
+        let Link::Open(connection) = &mut self.link else { return Ok(()) };
+        let (tun, device, lost) = (&self.tun, &mut self.device, std::cell::Cell::new(0));
+        let mut changed = false;
+        let result = self.end.feed(bytes, |event| match event {
+            Event::Packet(packet) => {
+                let mut file: &File = tun;
+                if file.write(packet).is_err() {
+                    lost.set(lost.get() + 1);
+                }
+            }
+            Event::Addresses(list) => (device.addresses, changed) = (list, true),
+            Event::Routes(list) => (device.routes, changed) = (list, true),
+            Event::Capsule(bytes) => connection.send(bytes),
+        });
+        self.end.counters.device += lost.get();
+        if changed {
+            self.put_on_device();
+        }
+        match result {
+            Ok(()) => Ok(()),
+            Err(Refusal(number)) => self.down(format_args!("stream refused {number} {}", reason(number))),
+        }
+    }
+
+    /// Takes off the device what was put there: it may be one that stays.
+    fn clear_device(&mut self) {
+        if self.config.apply == Apply::Ip {
+            self.change_device(Wanted::default());
+        }
+    }
+
+    /// What the peer gave is put on the device, or said.
+    fn put_on_device(&mut self) {
+        let mut outer: Vec<IpAddr> = vec![self.config.peer.ip()];
+        if let Stream::Connect(peer) = self.config.stream {
+            outer.push(peer.ip());
+        }
+        self.change_device(apply::wanted(&self.device.addresses, &self.device.routes, &self.config.assign, &outer));
+    }
+
+    fn change_device(&mut self, wanted: Wanted) {
+        let commands = apply::commands(&self.config.tun, &self.device.applied, &wanted);
+        match self.config.apply {
+            Apply::None => {
+                let text: String = commands.iter().map(|command| command.join(" ") + "\n").collect();
+                let _ = std::io::stdout().write_all(text.as_bytes());
+            }
+            Apply::Ip => apply::run(&commands).iter().for_each(say),
+        }
+        self.device.applied = wanted;
+    }
+
+    /// The stream is over: nothing is granted any more.
+    fn down(&mut self, why: std::fmt::Arguments) -> Result<(), String> {
+        say(format_args!("stream down: {why}"));
+        if let Link::Open(connection) = &self.link {
+            if connection.up_for(Instant::now()) >= SETTLED {
+                self.pause = FIRST_PAUSE;
+            }
+        }
+        self.end.start().map_err(|refusal| format!("plan: {refusal}"))?;
+        match self.config.stream {
+            Stream::Listen(_) => self.link = Link::Listening,
+            Stream::Connect(_) => self.wait_longer(),
+        }
+        Ok(())
+    }
+
+    fn paused(&mut self, why: std::fmt::Arguments) {
+        self.wait_longer();
+        say(why);
+    }
+
+    fn wait_longer(&mut self) {
+        say(format_args!("connecting again in {} s", self.pause.as_secs()));
+        self.link = Link::Paused(Instant::now() + self.pause);
+        self.pause = LONGEST_PAUSE.min(2 * self.pause);
+    }
+
+    /// What time brings: a new attempt to connect, the end of patience, a count of refused packets.
+    fn due(&mut self, now: Instant) -> Result<(), String> {
+        self.write_log(now);
+        match (&self.link, self.config.stream) {
+            (Link::Paused(until), Stream::Connect(peer)) if now >= *until => match sys::start_connect(peer) {
+                Ok(stream) => self.link = Link::Connecting(stream, now + PATIENCE),
+                Err(error) => self.paused(format_args!("cannot connect to {peer}: {error}")),
+            },
+            (Link::Connecting(_, until), Stream::Connect(peer)) if now >= *until => {
+                self.paused(format_args!("cannot connect to {peer}: no answer"));
+            }
+            (Link::Open(connection), _) if connection.deadline.is_some_and(|until| now >= until) => {
+                self.down(format_args!("the peer's first line did not come"))?;
+            }
+            _ => {}
+        }
+        Ok(())
+    }
+
+    fn write_log(&mut self, now: Instant) {
+        self.end.log.take(now).iter().for_each(say);
+    }
+
+    fn plans_differ(&mut self, theirs: &[u8]) {
+        say("the plans of the two ends differ: both need the same plan file");
+        for (whose, plan) in [("this end's", self.end.plan()), ("the peer's", theirs)] {
+            match crate::plan_text::show(plan) {
+                Ok(text) => say(format_args!("{whose} plan:\n{}", text.trim_end())),
+                Err(refusal) => say(format_args!("{whose} plan: {refusal}")),
+            }
+        }
+        if let Link::Open(connection) = &mut self.link {
+            connection.finish();
+        }
+    }
+}
