@@ -489,8 +489,8 @@ impl Host {
     }
 
     fn paused(&mut self, why: std::fmt::Arguments) {
-        self.wait_longer();
         say(why);
+        self.wait_longer();
     }
 
     fn wait_longer(&mut self) {
