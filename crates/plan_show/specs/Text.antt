@@ -1,15 +1,9 @@
 -- Text in ASCII, and numbers in decimal.
 use Prim.Native.Nat.{ℕ, zero, suc, _+_, _/_, _%_}
-use Prim.Native.Char.{code}
-use Prim.Native.String.{String, [] as none, _∷_ as _then_}
 use mathlib.Core.List.{List, [], _∷_, _++_}
 use lib.Dec.{ltb}
 use Rattle.answer.specs.Choice.{pick}
-
--- the bytes of a text
-abbrev pub ascii : String → List ℕ
-ascii none = []
-ascii (c then s) = code c ∷ ascii s
+pub use Rattle.options.specs.Ascii.{ascii}
 
 -- a number of 64 bits has at most 20 digits
 abbrev pub maxDigits : ℕ

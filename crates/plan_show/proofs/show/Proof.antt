@@ -4,20 +4,8 @@ use native.Mathlib.Omega.{arith}
 use lib.Seq.{length-take-le}
 use Rattle.plan_show.proofs.Rooms.{put-within}
 use borrow.Author.Needs.{needs}
-use Rattle.plan_show.proofs.main.Statement.{statement}
-use Rattle.plan_show.proofs.main.Tie as tie
-
-slice-aggregate-read-full : tie.Need-slice-aggregate-read-full
-slice-aggregate-read-full c = search needs
-
-read-full-requires : tie.Need-read-full-requires
-read-full-requires c κs = search needs
-
-array-share-prefix-input : tie.Need-array-share-prefix-input
-array-share-prefix-input c = search needs
-
-slice-aggregate-plan-lines : tie.Need-slice-aggregate-plan-lines
-slice-aggregate-plan-lines c = search needs
+use Rattle.plan_show.proofs.show.Statement.{statement}
+use Rattle.plan_show.proofs.show.Tie as tie
 
 plan-lines-requires : tie.Need-plan-lines-requires
 plan-lines-requires c κs = search needs
@@ -34,14 +22,10 @@ write-all-requires c κs = search needs
 returns : tie.Need-returns
 returns c = search needs
 
-pub main-spec : {M : Type 1} → statement M
-main-spec =
+pub show-spec : {M : Type 1} → statement M
+show-spec =
     tie.close
     (tie.spec
-    slice-aggregate-read-full
-    read-full-requires
-    array-share-prefix-input
-    slice-aggregate-plan-lines
     plan-lines-requires
     array-share-prefix-out
     slice-aggregate-write-all
