@@ -6,6 +6,7 @@
 mod answers;
 mod incoming;
 mod outgoing;
+mod says;
 
 use answers::answer_record;
 use incoming::RECORD_HEAD;
@@ -46,6 +47,15 @@ pub struct Answered {
 }
 
 fn main() {
+    let count = os::arg_count();
+    if count > 1 {
+        says::explain(count);
+        return;
+    }
+    run();
+}
+
+fn run() {
     let mut input = [0u8; INPUT];
     let mut out = [0u8; OUTPUT];
     // All 0: no grants, no templates, no capsule open.

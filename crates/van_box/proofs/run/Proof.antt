@@ -5,8 +5,8 @@ use Rattle.van_box.specs.Records.{memory}
 use Rattle.van_box.specs.Passing.{Sound}
 use Rattle.van_box.proofs.SoundStates.{fresh}
 use borrow.Author.Needs.{needs}
-use Rattle.van_box.proofs.main.Statement.{statement}
-use Rattle.van_box.proofs.main.Tie as tie
+use Rattle.van_box.proofs.run.Statement.{statement}
+use Rattle.van_box.proofs.run.Tie as tie
 
 abbrev Inv-loop : tie.InvT-loop
 Inv-loop input₀ out₀ state₀ kept₀ now₀ turns₀ input out state kept now turns = (now .held ≤ inputRoom) × (Sound (memory state kept))
@@ -35,8 +35,8 @@ returns c = search needs
 returns-2 : tie.Need-returns-2 Inv-loop μ-loop
 returns-2 c = search needs
 
-pub main-spec : {M : Type 1} → statement M
-main-spec =
+pub run-spec : {M : Type 1} → statement M
+run-spec =
     tie.close
     (tie.spec
     Inv-loop
