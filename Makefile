@@ -1,5 +1,5 @@
 # `make` prints its targets with the words behind each `##`. A file is made where it is missing or older than a source of it.
-.PHONY: help test run host install uninstall clean
+.PHONY: help test run host demo install uninstall clean
 # rt takes the cores that there are, and two of it would write the same files
 .NOTPARALLEL:
 
@@ -25,6 +25,9 @@ run: ## shows the drivers' plan, and runs the box on the sample trace
 host: $(host) ## builds the static library and the program whapirohi
 	@echo "$(library)"
 	@echo "$(host)"
+
+demo: $(library) ## two ends in network namespaces of this machine, pings between them, and the counters; as root
+	@scripts/demo
 
 install: $(library) $(host) $(programs) ## library, header, programs and manual page to PREFIX (/usr/local), below DESTDIR
 	@scripts/install
