@@ -1,4 +1,5 @@
 -- An argument that is equal to neither text does not ask for help.
+use mathlib.Core.Path.{refl}
 use borrow.Author.Needs.{needs}
 use Rattle.options.proofs.Asking.{help-first, help-last}
 use Rattle.options.proofs.is_help.Statement.{statement}
@@ -20,7 +21,7 @@ same-requires-2 : tie.Need-same-requires-2
 same-requires-2 c κs = search needs
 
 returns-2 : tie.Need-returns-2
-returns-2 c = help-last (c .before .before .if1 .left) (c .before .before .before .same .ensures .1) (c .same2 .ensures .0) (c .same2 .ensures .1)
+returns-2 c = help-last (c .before .before .if1 .left) (c .before .before .before .same .ensures .1) (c .same2 .ensures .0) (c .same2 .ensures .1) refl
 
 pub is-help-spec : {M : Type 1} → statement M
 is-help-spec =
