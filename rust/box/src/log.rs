@@ -1,8 +1,10 @@
 //! The log, on standard error. Refused packets take at most ten lines a second of it.
 
+use crate::sys;
 use std::fmt::Display;
 use std::io::Write;
 use std::net::{Ipv4Addr, Ipv6Addr};
+use std::os::fd::AsRawFd;
 use std::time::{Duration, Instant};
 
 const LINES: u32 = 10;
@@ -10,7 +12,15 @@ const PERIOD: Duration = Duration::from_secs(1);
 
 /// A line of the log. Where nobody reads it, the box goes on.
 pub fn say(line: impl Display) {
-    let _ = writeln!(std::io::stderr(), "{line}");
+    let _lost = put(&mut std::io::stderr(), &format!("{line}\n"));
+}
+
+/// Writes lines, each whole or not at all, and answers how many were lost because the file did not take them at once: a pipe that nobody reads
+/// must not hold up packets and signals.
+pub fn put(file: &mut (impl Write + AsRawFd), text: &str) -> usize {
+    // A pipe or a socket that takes bytes takes a page of them, and no line is longer.
+    let lost = |line: &&str| !sys::takes_bytes(file) || file.write_all(line.as_bytes()).is_err();
+    text.split_inclusive('\n').filter(lost).count()
 }
 
 /// Lines that come in any number, of which ten a second are kept to be written, and the others counted.
@@ -100,6 +110,19 @@ mod tests {
         assert_eq!((next.len(), next[0].as_str(), next[9].as_str()), (10, "990 more refused packets", "y"));
         assert_eq!(limit.take(start + 2 * PERIOD), ["11 more refused packets"]);
         assert_eq!((limit.due(), limit.take(start + 9 * PERIOD)), (None, Vec::new()));
+    }
+
+    #[test]
+    fn a_full_pipe_holds_nothing_up() {
+        let (mut reader, mut writer) = std::io::pipe().unwrap();
+        let line = "x".repeat(99) + "\n";
+        // Many times what a pipe holds.
+        let lost: usize = (0..1000).map(|_| put(&mut writer, &line.repeat(30))).sum();
+        drop(writer);
+        let mut read = String::new();
+        std::io::Read::read_to_string(&mut reader, &mut read).unwrap();
+        assert!(0 < lost && lost < 30_000);
+        assert_eq!(read, line.repeat(30_000 - lost));
     }
 
     #[test]

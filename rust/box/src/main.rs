@@ -3,6 +3,7 @@
 use std::io::{IsTerminal, Read, Write};
 use std::path::Path;
 use std::process::ExitCode;
+use whapirohi_box::log::say;
 use whapirohi_box::run::{self, Ending};
 use whapirohi_box::{config, explain, plan_text, Fault};
 
@@ -33,7 +34,7 @@ fn main() -> ExitCode {
     match command(&words) {
         Ok(status) => ExitCode::from(status),
         Err(Failure(status, words)) => {
-            eprintln!("whapirohi: {words}");
+            say(format_args!("whapirohi: {words}"));
             ExitCode::from(status)
         }
     }

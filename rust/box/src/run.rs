@@ -7,7 +7,7 @@ use crate::apply::{self, Wanted};
 use crate::config::{Apply, Config, Stream, MTU_LEAST_IPV6};
 use crate::end::{End, Event};
 use crate::greeting;
-use crate::log::say;
+use crate::log::{put, say};
 use crate::stream::{Arrived, Connection};
 use crate::sys::{self, Batch, Watch, BATCH, ROOM};
 use std::fs::File;
@@ -465,7 +465,10 @@ impl Host {
         match self.config.apply {
             Apply::None => {
                 let text: String = commands.iter().map(|command| command.join(" ") + "\n").collect();
-                let _ = std::io::stdout().write_all(text.as_bytes());
+                match put(&mut std::io::stdout(), &text) {
+                    0 => {}
+                    lost => say(format_args!("{lost} ip commands were lost: standard output does not take them")),
+                }
             }
             Apply::Ip => apply::run(&commands).iter().for_each(say),
         }

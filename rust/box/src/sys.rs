@@ -299,6 +299,13 @@ impl Watch {
     }
 }
 
+/// Whether a file takes bytes now, or at once says that it takes none.
+pub fn takes_bytes(file: &impl AsRawFd) -> bool {
+    let mut watch = Watch::default();
+    let place = watch.add(file, false, true);
+    watch.wait(0).is_ok() && watch.ready(place)
+}
+
 /// The datagrams of one call, at most.
 pub const BATCH: usize = 64;
 
