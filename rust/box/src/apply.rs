@@ -24,18 +24,22 @@ pub fn declined(entry: &Entry) -> bool {
 }
 
 /// What the lists come to. Routes are all addresses advertised, whatever the protocol, and all that the peer was given, but those spared: the
-/// packets of the tunnel's own link must not go into the tunnel.
+/// packets of the tunnel's own link must not go into the tunnel, nor must this machine take them for its own.
 pub fn wanted(received: &[Entry], routes: &[Range], given: &[Entry], spared: &[IpAddr]) -> Wanted {
+    // An IPv4 address in an IPv6 socket is sent to as IPv4.
+    let spared: Vec<IpAddr> = spared.iter().map(IpAddr::to_canonical).collect();
     let mut addresses = Vec::new();
     for entry in received.iter().filter(|entry| !declined(entry)) {
-        push_new(&mut addresses, (entry.address, entry.prefix_length));
+        let prefix = (entry.address, entry.prefix_length);
+        if !spared.contains(&host(prefix)) {
+            push_new(&mut addresses, prefix);
+        }
     }
     let given = given.iter().filter(|entry| !declined(entry));
     let given = given.map(|entry| text::span_of(entry.address, entry.prefix_length));
     let mut blocks = union(routes.iter().map(|range| range.span).chain(given));
     for address in spared {
-        // An IPv4 address in an IPv6 socket is sent to as IPv4.
-        let (bits, number) = text::number(address.to_canonical());
+        let (bits, number) = text::number(address);
         blocks = blocks.into_iter().flat_map(|block| block.without(bits, number)).flatten().collect();
     }
     let routes = blocks.iter().flat_map(|block| text::prefixes(text::span_between(block.bits, block.start, block.end)));
@@ -135,17 +139,20 @@ fn union(spans: impl Iterator<Item = Span>) -> Vec<Block> {
 
 /// The addresses that are put on the device, each by itself. Any address of an assigned prefix is ours, and who in the network behind us has
 /// which is not for the tunnel to say; so the device takes the first one that a host may have, with its full length: with the prefix's own
-/// length the kernel would send all packets for that network into the tunnel. The first is the prefix plus 1, below which lies the network's
-/// own address (IPv4) or the routers' (IPv6, RFC 4291), but for prefixes of two (RFC 3021, RFC 6164) and single addresses. A prefix of length
-/// 0 is no network of ours and puts none.
+/// length the kernel would send all packets for that network into the tunnel. A prefix of length 0 is no network of ours and puts none.
 fn hosts(wanted: &Wanted) -> Vec<IpAddr> {
     let mut hosts = Vec::new();
-    for (address, length) in wanted.addresses.iter().filter(|(_, length)| *length > 0) {
-        let (bits, number) = text::number(*address);
-        let first = if length + 1 < bits { number | 1 } else { number };
-        push_new(&mut hosts, text::address_of(bits, first));
+    for prefix in wanted.addresses.iter().filter(|(_, length)| *length > 0) {
+        push_new(&mut hosts, host(*prefix));
     }
     hosts
+}
+
+/// The first address of a prefix that a host may have: the prefix plus 1, below which lies the network's own address (IPv4) or the routers'
+/// (IPv6, RFC 4291), but for prefixes of two (RFC 3021, RFC 6164) and single addresses.
+fn host((address, length): (IpAddr, u8)) -> IpAddr {
+    let (bits, number) = text::number(address);
+    text::address_of(bits, if length + 1 < bits { number | 1 } else { number })
 }
 
 /// The routes that are put on the device. All of a version goes as its two halves: they are taken before a default route that is there

@@ -97,6 +97,13 @@ fn a_spared_address_is_left_out_of_everything() {
     assert_eq!(wanted(&[], &[range("192.0.2.1", 17)], &[entry("192.0.2.1")], &[peer4]), Wanted::default());
 }
 
+#[test]
+fn a_spared_address_is_not_put_on_the_device() {
+    let received = ["192.0.2.1", "192.0.2.0/24", "192.0.2.3", "2001:db8::/64"].map(entry);
+    let spared = ["::ffff:192.0.2.1", "2001:db8::1"].map(|address| address.parse().unwrap());
+    assert_eq!(listed(&wanted(&received, &[], &[], &spared).addresses), ["192.0.2.3/32"]);
+}
+
 /// Every pair of ranges, given prefix and spared address among 8 addresses: an address has a route exactly when it is meant to.
 #[test]
 fn routes_hold_exactly_what_they_should() {
