@@ -1,6 +1,7 @@
 //! From the lists that a state holds to the addresses and routes of the device, by `ip` commands.
 
 use crate::text;
+use std::collections::HashSet;
 use std::io::Write;
 use std::net::IpAddr;
 use std::process::{Command, Stdio};
@@ -50,14 +51,15 @@ pub fn wanted(received: &[Entry], routes: &[Range], given: &[Entry], spared: &[I
 pub fn commands(device: &str, old: &Wanted, new: &Wanted) -> Vec<Vec<String>> {
     let (old_hosts, new_hosts) = (hosts(old), hosts(new));
     let (old_routes, new_routes) = (lanes(old), lanes(new));
+    let (before, after): (HashSet<_>, HashSet<_>) = (old_routes.iter().collect(), new_routes.iter().collect());
     // With the last IPv4 address of a device, Linux drops its IPv4 routes: so new addresses are put before old ones go, and where none is
     // left the routes are put again.
     let dropped = old_hosts.iter().any(IpAddr::is_ipv4) && !new_hosts.iter().any(IpAddr::is_ipv4);
 
-    let gone_routes = old_routes.iter().filter(|route| !new_routes.contains(route));
+    let gone_routes = old_routes.iter().filter(|route| !after.contains(route));
     let more_hosts = new_hosts.iter().filter(|host| !old_hosts.contains(host));
     let gone_hosts = old_hosts.iter().filter(|host| !new_hosts.contains(host));
-    let more_routes = new_routes.iter().filter(|route| !old_routes.contains(route) || dropped && route.0.is_ipv4());
+    let more_routes = new_routes.iter().filter(|route| !before.contains(route) || dropped && route.0.is_ipv4());
 
     let mut commands = Vec::new();
     commands.extend(gone_routes.map(|route| route_command("del", device, route)));
