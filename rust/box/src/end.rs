@@ -80,19 +80,14 @@ impl End {
         self.state.kept_count > 0 || self.state.to_skip > 0
     }
 
-    /// The capsules that open a stream: what the peer is given, and what is asked of it.
+    /// The capsules that open a stream: what the peer is given, and what is asked of it. Empty lists go out too: the peer's device may still
+    /// have what an earlier stream gave.
     pub fn opening(&mut self) -> Result<Vec<u8>, Refusal> {
         let mut bytes = Vec::new();
-        if !self.assign.is_empty() {
-            let words = address_words(self.leases.entries())?;
-            let length = self.state.write_assign(&words, &mut self.out).written()?;
-            bytes.extend_from_slice(&self.out[..length]);
-        }
-        if !self.routes.is_empty() {
-            let words = route_words(&self.routes)?;
-            let length = self.state.write_routes(&words, &mut self.out).written()?;
-            bytes.extend_from_slice(&self.out[..length]);
-        }
+        let length = self.state.write_assign(&address_words(self.leases.entries())?, &mut self.out).written()?;
+        bytes.extend_from_slice(&self.out[..length]);
+        let length = self.state.write_routes(&route_words(&self.routes)?, &mut self.out).written()?;
+        bytes.extend_from_slice(&self.out[..length]);
         if !self.request.is_empty() {
             let length = write_request(&address_words(&self.request)?, &mut self.out).written()?;
             bytes.extend_from_slice(&self.out[..length]);

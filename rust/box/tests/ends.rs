@@ -117,12 +117,15 @@ fn lists_and_requests_come_out_as_events() {
     })
     .unwrap();
     assert_eq!((addresses.clone(), routes), (vec![entry(0, "192.0.2.3", 32)], vec![udp_to_clinic()]));
+    // The van gives nothing, and says so.
+    let mut given = Vec::new();
     clinic
         .feed(&asked, |event| match event {
             Event::Capsule(bytes) => answer.extend_from_slice(bytes),
-            other => panic!("{other:?}"),
+            other => given.push(format!("{other:?}")),
         })
         .unwrap();
+    assert_eq!(given, ["Addresses([])", "Routes([])"]);
     van.feed(&answer, |event| match event {
         Event::Addresses(list) => addresses = list,
         other => panic!("{other:?}"),
