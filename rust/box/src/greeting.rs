@@ -2,7 +2,7 @@
 //! so that ends with different plans notice it; a template that only one of them knew would rebuild a packet as another.
 
 use crate::text::{hex, unhex};
-use whapirohi_tunnel::PLAN_ROOM;
+use whapirohi_tunnel::{number, Refusal, State, PLAN_ROOM};
 
 const START: &str = "whapirohi 1 plan ";
 
@@ -16,11 +16,15 @@ pub fn line(plan: &[u8]) -> String {
     format!("{START}{}\n", hex(plan))
 }
 
-/// The plan of a line, of what came up to its end; or why it is none.
+/// The plan of a line, of what came up to its end; or why it is none. Bytes that are no plan come from no other end: they are a broken stream,
+/// and not a plan that differs.
 pub fn plan(line: &[u8]) -> Result<Vec<u8>, String> {
     let text = std::str::from_utf8(line).ok().and_then(|text| text.strip_suffix('\n'));
     match text.map(|text| (text, text.strip_prefix(START).and_then(unhex))) {
-        Some((_, Some(plan))) => Ok(plan),
+        Some((_, Some(plan))) => match State::new().load_plan(&plan) {
+            number::DONE => Ok(plan),
+            number => Err(format!("the peer's first line has no plan: {}", Refusal(number))),
+        },
         Some((text, None)) if text.starts_with("whapirohi ") && !text.starts_with("whapirohi 1 ") => {
             let version: String =
                 text.chars().skip("whapirohi ".len()).take_while(|c| c.is_ascii_digit()).take(9).collect();
@@ -37,10 +41,10 @@ mod tests {
     #[test]
     fn a_line_gives_its_plan_back() {
         assert_eq!(line(NO_TEMPLATES), "whapirohi 1 plan 56414e000100\n");
-        for file in [NO_TEMPLATES, b"", &[0xAB; PLAN_ROOM]] {
+        for file in [NO_TEMPLATES, b"VAN\x00\x01\x01\x02\x01\x0C\x01\xC0\x00"] {
             assert_eq!(plan(line(file).as_bytes()).as_deref(), Ok(file));
-            assert!(line(file).len() <= LINE_LIMIT);
         }
+        assert_eq!(line(&[0xAB; PLAN_ROOM]).len(), LINE_LIMIT);
     }
 
     #[test]
@@ -49,7 +53,10 @@ mod tests {
             &b"whapirohi 1 plan 5\n"[..],
             b"whapirohi 1 plan 56 41\n",
             b"whapirohi 1 plan +5\n",
-            b"whapirohi 1 plan 56",
+            b"whapirohi 1 plan \n",
+            b"whapirohi 1 plan 56414e\n",
+            b"whapirohi 1 plan 56414e00010000\n",
+            b"whapirohi 1 plan 56414e000100",
             b"whapirohi 1 plan 56\r\n",
             b"WHAPIROHI 1 plan 56\n",
             b"GET / HTTP/1.1\r\n",
