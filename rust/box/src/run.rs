@@ -117,6 +117,13 @@ fn open_udp(config: &Config) -> Result<UdpSocket, String> {
     Ok(udp)
 }
 
+/// Where the stream comes from: the address of the datagrams, by which a listening peer knows this end; any port.
+fn stream_source(config: &Config, peer: SocketAddr) -> Option<SocketAddr> {
+    let mut local = config.local;
+    local.set_port(0);
+    Some(local).filter(|local| local.is_ipv4() == peer.is_ipv4())
+}
+
 /// The longest packets whose datagrams the link takes whole: its MTU, less the outer headers and the longest Context ID.
 fn fitting_mtu(config: &Config, udp: &UdpSocket) -> Result<usize, String> {
     let link = sys::path_mtu(udp, config.peer).map_err(|error| format!("udp: cannot learn the link's MTU: {error}"))?;
@@ -506,10 +513,12 @@ impl Host {
     fn due(&mut self, now: Instant) -> Result<(), String> {
         self.write_log(now);
         match (&self.link, self.config.stream) {
-            (Link::Paused(until), Stream::Connect(peer)) if now >= *until => match sys::start_connect(peer) {
-                Ok(stream) => self.link = Link::Connecting(stream, now + PATIENCE),
-                Err(error) => self.paused(format_args!("cannot connect to {peer}: {error}")),
-            },
+            (Link::Paused(until), Stream::Connect(peer)) if now >= *until => {
+                match sys::start_connect(stream_source(&self.config, peer), peer) {
+                    Ok(stream) => self.link = Link::Connecting(stream, now + PATIENCE),
+                    Err(error) => self.paused(format_args!("cannot connect to {peer}: {error}")),
+                }
+            }
             (Link::Connecting(_, until), Stream::Connect(peer)) if now >= *until => {
                 self.paused(format_args!("cannot connect to {peer}: no answer"));
             }

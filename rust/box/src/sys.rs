@@ -116,6 +116,7 @@ extern "C" {
     fn ioctl(fd: c_int, request: c_ulong, ...) -> c_int;
     fn poll(fds: *mut PollFd, count: c_ulong, timeout: c_int) -> c_int;
     fn socket(domain: c_int, kind: c_int, protocol: c_int) -> c_int;
+    fn bind(fd: c_int, address: *const c_void, length: u32) -> c_int;
     fn connect(fd: c_int, address: *const c_void, length: u32) -> c_int;
     fn getsockopt(fd: c_int, level: c_int, name: c_int, value: *mut c_void, length: *mut u32) -> c_int;
     fn setsockopt(fd: c_int, level: c_int, name: c_int, value: *const c_void, length: u32) -> c_int;
@@ -213,28 +214,35 @@ pub fn notice_silence(stream: &TcpStream, seconds: u32) -> io::Result<()> {
     set(fd, IPPROTO_TCP, TCP_USER_TIMEOUT, (1000 * seconds) as c_int)
 }
 
-/// Starts to connect: the stream is writable once it is connected, or failed (`take_error`).
-pub fn start_connect(peer: SocketAddr) -> io::Result<TcpStream> {
+/// Hands an address to a call in the system's form, with its size.
+fn lend(address: SocketAddr, call: impl FnOnce(*const c_void, u32) -> c_int) -> io::Result<c_int> {
+    let port = address.port().to_be_bytes();
+    answer(match address {
+        SocketAddr::V4(v4) => {
+            let address = SockAddrIn { family: AF_INET as u16, port, address: v4.ip().octets(), zero: [0; 8] };
+            call((&raw const address).cast(), size_of::<SockAddrIn>() as u32)
+        }
+        SocketAddr::V6(v6) => {
+            let (flow, scope) = (v6.flowinfo(), v6.scope_id());
+            let address = SockAddrIn6 { family: AF_INET6 as u16, port, flow, address: v6.ip().octets(), scope };
+            call((&raw const address).cast(), size_of::<SockAddrIn6>() as u32)
+        }
+    })
+}
+
+/// Starts to connect, from a local address where one is named: the stream is writable once it is connected, or failed (`take_error`).
+pub fn start_connect(local: Option<SocketAddr>, peer: SocketAddr) -> io::Result<TcpStream> {
     let family = if peer.is_ipv4() { AF_INET } else { AF_INET6 };
     // SAFETY: takes no pointer.
     let fd = answer(unsafe { socket(family, SOCK_STREAM | SOCK_NONBLOCK | SOCK_CLOEXEC, 0) })?;
     // SAFETY: the descriptor is new and nobody else's.
     let stream = TcpStream::from(unsafe { OwnedFd::from_raw_fd(fd) });
-    let port = peer.port().to_be_bytes();
-    let result = match peer {
-        SocketAddr::V4(v4) => {
-            let address = SockAddrIn { family: family as u16, port, address: v4.ip().octets(), zero: [0; 8] };
-            // SAFETY: the address is lent with its size.
-            answer(unsafe { connect(fd, (&raw const address).cast(), size_of::<SockAddrIn>() as u32) })
-        }
-        SocketAddr::V6(v6) => {
-            let (flow, scope) = (v6.flowinfo(), v6.scope_id());
-            let address = SockAddrIn6 { family: family as u16, port, flow, address: v6.ip().octets(), scope };
-            // SAFETY: the address is lent with its size.
-            answer(unsafe { connect(fd, (&raw const address).cast(), size_of::<SockAddrIn6>() as u32) })
-        }
-    };
-    match result {
+    if let Some(local) = local {
+        // SAFETY: the address is lent with its size.
+        lend(local, |address, length| unsafe { bind(fd, address, length) })?;
+    }
+    // SAFETY: the address is lent with its size.
+    match lend(peer, |address, length| unsafe { connect(fd, address, length) }) {
         Err(error) if error.raw_os_error() != Some(EINPROGRESS) => Err(error),
         _ => Ok(stream),
     }
@@ -418,5 +426,19 @@ impl Batch {
             header.header.vectors = vector;
         }
         self.headers[from..].as_mut_ptr()
+    }
+}
+
+#[cfg(test)]
+mod tests {
+    use super::*;
+
+    #[test]
+    fn a_stream_comes_from_the_address_that_is_named() {
+        let listener = std::net::TcpListener::bind("127.0.0.1:0").unwrap();
+        let local: SocketAddr = "127.0.0.5:0".parse().unwrap();
+        let stream = start_connect(Some(local), listener.local_addr().unwrap()).unwrap();
+        let (_, from) = listener.accept().unwrap();
+        assert_eq!((from.ip(), from), (local.ip(), stream.local_addr().unwrap()));
     }
 }
