@@ -31,8 +31,9 @@ const PATIENCE: Duration = Duration::from_secs(10);
 /// A peer that does not answer for this many seconds is gone.
 const SILENCE: u32 = 30;
 
-/// Room for bursts at the socket.
-const SOCKET_BUFFER: usize = 4 << 20;
+/// Room for bursts that arrive. What leaves has no more room than usual: on a slow link the stream waits behind it, and a long queue would pass
+/// for silence.
+const ARRIVALS: usize = 4 << 20;
 
 /// Headers around a datagram: IPv4 or IPv6, and UDP.
 const OUTER4: usize = 20 + 8;
@@ -113,7 +114,7 @@ fn open_udp(config: &Config) -> Result<UdpSocket, String> {
     let udp = UdpSocket::bind(config.local).map_err(failed(format!("bind {}", config.local)))?;
     udp.connect(config.peer).map_err(failed(format!("reach {}", config.peer)))?;
     udp.set_nonblocking(true).map_err(failed("be set up".to_string()))?;
-    sys::widen_buffers(&udp, SOCKET_BUFFER);
+    sys::widen_arrivals(&udp, ARRIVALS);
     Ok(udp)
 }
 

@@ -22,7 +22,6 @@ const EINPROGRESS: c_int = 115;
 
 const SOL_SOCKET: c_int = 1;
 const SO_KEEPALIVE: c_int = 9;
-const SO_SNDBUFFORCE: c_int = 32;
 const SO_RCVBUFFORCE: c_int = 33;
 const IPPROTO_IP: c_int = 0;
 const IP_MTU: c_int = 14;
@@ -198,10 +197,9 @@ fn set(fd: RawFd, level: c_int, name: c_int, value: c_int) -> io::Result<()> {
     answer(unsafe { setsockopt(fd, level, name, (&raw const value).cast(), length) }).map(|_| ())
 }
 
-/// Room for bursts, in bytes each way, beyond what is set for every process; without the right to it, as it was.
-pub fn widen_buffers(socket: &UdpSocket, bytes: usize) {
+/// Room for bursts that arrive, in bytes, beyond what is set for every process; without the right to it, as it was.
+pub fn widen_arrivals(socket: &UdpSocket, bytes: usize) {
     let _ = set(socket.as_raw_fd(), SOL_SOCKET, SO_RCVBUFFORCE, bytes as c_int);
-    let _ = set(socket.as_raw_fd(), SOL_SOCKET, SO_SNDBUFFORCE, bytes as c_int);
 }
 
 /// A peer that is gone without a word is noticed after some `seconds`, whether bytes wait for it or not.
