@@ -170,7 +170,8 @@ fn report(load: &Load, samples: &[Vec<Sample>; 2]) {
     let pace = load.rate.map_or("as fast as it goes".to_string(), |rate| format!("{rate} packets a second"));
     println!("\n{} bytes, {form}, {pace}", load.size);
     println!("{:32} {:>27} {:>27} {:>9}", "", "box", "forward only", "ratio");
-    let rows: [(&str, fn(&Sample) -> f64); 3] = [
+    type Value = fn(&Sample) -> f64;
+    let rows: [(&str, Value); 3] = [
         ("packets a second", |sample| sample.arrived),
         ("ns a packet, the van's process", |sample| sample.van),
         ("ns a packet, the clinic's process", |sample| sample.clinic),
