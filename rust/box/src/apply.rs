@@ -18,25 +18,19 @@ pub struct Wanted {
 /// and is the one taken. A longer prefix that the peer advertises still goes before it.
 const METRIC: &str = "9484";
 
-/// Whether an entry is the answer to a request that was declined (RFC 9484, section 4.7.2).
-pub fn declined(entry: &Entry) -> bool {
-    let (bits, number) = text::number(entry.address);
-    number == 0 && entry.prefix_length == bits
-}
-
 /// What the lists come to. Routes are all addresses advertised, whatever the protocol, and all that the peer was given, but those spared: the
 /// packets of the tunnel's own link must not go into the tunnel, nor must this machine take them for its own.
 pub fn wanted(received: &[Entry], routes: &[Range], given: &[Entry], spared: &[IpAddr]) -> Wanted {
     // An IPv4 address in an IPv6 socket is sent to as IPv4.
     let spared: Vec<IpAddr> = spared.iter().map(IpAddr::to_canonical).collect();
     let mut addresses = Vec::new();
-    for entry in received.iter().filter(|entry| !declined(entry)) {
+    for entry in received.iter().filter(|entry| !entry.is_declined()) {
         let prefix = (entry.address, entry.prefix_length);
         if !spared.contains(&host(prefix)) {
             push_new(&mut addresses, prefix);
         }
     }
-    let given = given.iter().filter(|entry| !declined(entry));
+    let given = given.iter().filter(|entry| !entry.is_declined());
     let given = given.map(|entry| text::span_of(entry.address, entry.prefix_length));
     let mut blocks = union(routes.iter().map(|range| range.span).chain(given));
     for address in spared {

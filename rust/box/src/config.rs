@@ -1,6 +1,6 @@
 //! The configuration: one text file, a line each.
 
-use crate::{apply, text, Fault};
+use crate::{text, Fault};
 use std::fs;
 use std::io::Read;
 use std::net::{Ipv4Addr, Ipv6Addr, SocketAddr};
@@ -150,7 +150,7 @@ impl Draft {
     fn assign(&mut self, line: usize, text: &str) -> Result<(), String> {
         let (address, prefix_length) = text::prefix(text)?;
         let entry = Entry { request_id: 0, address, prefix_length };
-        if apply::declined(&entry) {
+        if entry.is_declined() {
             return Err(format!("{address}/{prefix_length} stands for a declined request; assign another prefix"));
         }
         if let Some((earlier, _)) = self.assign.iter().find(|(_, other)| *other == entry) {
@@ -344,7 +344,7 @@ fn wish(entry: &Entry) -> String {
     let Entry { request_id, address, prefix_length } = entry;
     let version = if address.is_ipv4() { 4 } else { 6 };
     match address.is_unspecified() {
-        true if apply::declined(entry) => format!("any IPv{version} address, as number {request_id}"),
+        true if entry.is_declined() => format!("any IPv{version} address, as number {request_id}"),
         true => format!("any IPv{version} prefix of length {prefix_length}, as number {request_id}"),
         false => format!("{address}/{prefix_length}, as number {request_id}"),
     }

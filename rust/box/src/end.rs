@@ -11,6 +11,9 @@ use whapirohi_tunnel::{address_words, entries, kind, number, ranges, read_number
 use whapirohi_tunnel::{AddressWords, Entry, KeptBytes, Range, Refusal, State};
 use whapirohi_tunnel::{ADDRESS_WORDS, CAPSULE_ROOM, FEED_ROOM, KEPT_SIZE, RECEIVE_ROOM};
 
+/// The most lines a second that refused packets take of the log.
+const REFUSED_LINES: u32 = 10;
+
 /// What came of a capsule, for the host to act on.
 #[derive(Clone, Debug, PartialEq, Eq)]
 pub enum Event<'a> {
@@ -51,7 +54,7 @@ impl End {
             request: config.request.clone(),
             leases: Leases::new(&config.assign),
             counters: Counters::default(),
-            log: Limit::new(Instant::now()),
+            log: Limit::new(Instant::now(), REFUSED_LINES, "refused packets"),
             requested: Box::new([0; ADDRESS_WORDS]),
             value: vec![0; FEED_ROOM].into(),
             out: vec![0; CAPSULE_ROOM].into(),

@@ -62,7 +62,6 @@ fn unspecified(entry: &Entry) -> std::net::IpAddr {
 #[cfg(test)]
 mod tests {
     use super::*;
-    use crate::apply::declined;
 
     fn entry(request_id: u64, address: &str, prefix_length: u8) -> Entry {
         Entry { request_id, address: address.parse().unwrap(), prefix_length }
@@ -83,7 +82,7 @@ mod tests {
                 entry(9, "0.0.0.0", 32)
             ]
         );
-        assert!(declined(&answer[3]) && !declined(&answer[0]));
+        assert!(answer[3].is_declined() && !answer[0].is_declined());
         // A later request leaves what is bound, and a refusal is said once.
         assert_eq!(leases.answer(&[entry(10, "::", 64)])[2..], [entry(10, "2001:db8::3", 128)]);
         assert_eq!(leases.answer(&[entry(11, "::", 64)])[3..], [entry(11, "::", 128)]);

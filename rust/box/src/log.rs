@@ -1,4 +1,4 @@
-//! The log, on standard error. Refused packets take at most ten lines a second of it.
+//! The log, on standard error. What comes from outside takes a bounded number of lines a second of it.
 
 use crate::sys;
 use std::fmt::Display;
@@ -7,7 +7,6 @@ use std::net::{Ipv4Addr, Ipv6Addr};
 use std::os::fd::AsRawFd;
 use std::time::{Duration, Instant};
 
-const LINES: u32 = 10;
 const PERIOD: Duration = Duration::from_secs(1);
 
 /// A line of the log. Where nobody reads it, the box goes on.
@@ -23,9 +22,12 @@ pub fn put(file: &mut (impl Write + AsRawFd), text: &str) -> usize {
     text.split_inclusive('\n').filter(lost).count()
 }
 
-/// Lines that come in any number, of which ten a second are kept to be written, and the others counted.
+/// Lines that come in any number, of which some a second are kept to be written, and the others counted.
 #[derive(Debug)]
 pub struct Limit {
+    /// The most lines a second, and what the lines are about.
+    most: u32,
+    about: &'static str,
     since: Instant,
     admitted: u32,
     held_back: u64,
@@ -33,14 +35,14 @@ pub struct Limit {
 }
 
 impl Limit {
-    pub fn new(now: Instant) -> Limit {
-        Limit { since: now, admitted: 0, held_back: 0, lines: Vec::new() }
+    pub fn new(now: Instant, most: u32, about: &'static str) -> Limit {
+        Limit { most, about, since: now, admitted: 0, held_back: 0, lines: Vec::new() }
     }
 
     /// Keeps a line, or counts it.
     pub fn admit(&mut self, now: Instant, line: impl FnOnce() -> String) {
         self.turn(now);
-        if self.admitted < LINES {
+        if self.admitted < self.most {
             self.keep(line());
         } else {
             self.held_back += 1;
@@ -68,7 +70,7 @@ impl Limit {
             let held_back = std::mem::take(&mut self.held_back);
             (self.since, self.admitted) = (now, 0);
             if held_back > 0 {
-                self.keep(format!("{held_back} more refused packets"));
+                self.keep(format!("{held_back} more {}", self.about));
             }
         }
     }
@@ -98,7 +100,7 @@ mod tests {
     #[test]
     fn ten_lines_a_second() {
         let start = Instant::now();
-        let mut limit = Limit::new(start);
+        let mut limit = Limit::new(start, 10, "refused packets");
         for i in 0..1000 {
             limit.admit(start + i * Duration::from_micros(500), || "x".to_string());
         }

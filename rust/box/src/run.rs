@@ -7,9 +7,10 @@ use crate::apply::{self, Wanted};
 use crate::config::{Apply, Config, Stream, MTU_LEAST_IPV6};
 use crate::end::{End, Event};
 use crate::greeting;
-use crate::log::{put, say};
+use crate::log::{put, say, Limit};
 use crate::stream::{Arrived, Connection};
 use crate::sys::{self, Batch, Watch, BATCH, ROOM};
+use crate::text;
 use std::fs::File;
 use std::io::{ErrorKind, Read, Write};
 use std::net::{IpAddr, SocketAddr, TcpListener, TcpStream, UdpSocket};
@@ -34,6 +35,12 @@ const SILENCE: u32 = 30;
 /// Room for bursts that arrive. What leaves has no more room than usual: on a slow link the stream waits behind it, and a long queue would pass
 /// for silence.
 const ARRIVALS: usize = 4 << 20;
+
+/// The most lines a second about lists and about connections that are not the peer's, which may come in any number.
+const NOTED_LINES: u32 = 10;
+
+/// The most entries or ranges in a line of the log.
+const TOLD: usize = 8;
 
 /// Headers around a datagram: IPv4 or IPv6, and UDP.
 const OUTER4: usize = 20 + 8;
@@ -71,6 +78,8 @@ struct Host {
     arrived: Batch,
     packet: Box<[u8]>,
     device: Device,
+    /// What was noted for the log, until it is written.
+    log: Limit,
 }
 
 /// What is put on the device: what the peer gave last, also while the stream is down.
@@ -123,6 +132,16 @@ fn stream_source(config: &Config, peer: SocketAddr) -> Option<SocketAddr> {
     let mut local = config.local;
     local.set_port(0);
     Some(local).filter(|local| local.is_ipv4() == peer.is_ipv4())
+}
+
+/// The first of a list, for a line of the log.
+fn told(list: impl ExactSizeIterator<Item = String>) -> String {
+    let more = list.len().saturating_sub(TOLD);
+    match list.take(TOLD).collect::<Vec<_>>().join(", ") {
+        none if none.is_empty() => "nothing".to_string(),
+        all if more == 0 => all,
+        first => format!("{first} and {more} more"),
+    }
 }
 
 /// The longest packets whose datagrams the link takes whole: its MTU, less the outer headers and the longest Context ID.
@@ -196,6 +215,7 @@ impl Host {
             arrived: Batch::default(),
             packet: vec![0; ROOM].into(),
             device: Device::default(),
+            log: Limit::new(Instant::now(), NOTED_LINES, "lists, or connections that are not the peer's"),
         })
     }
 
@@ -246,7 +266,7 @@ impl Host {
             Link::Connecting(_, until) => Some(*until),
             Link::Open(connection) => connection.deadline,
         };
-        match due.into_iter().chain(self.end.log.due()).min() {
+        match due.into_iter().chain(self.end.log.due()).chain(self.log.due()).min() {
             None => -1,
             // A millisecond more, so as not to wake before it.
             Some(until) => until.saturating_duration_since(Instant::now()).as_millis() as i32 + 1,
@@ -334,7 +354,7 @@ impl Host {
     fn accept(&mut self) -> Result<(), String> {
         let Some(Ok((stream, from))) = self.listener.as_ref().map(TcpListener::accept) else { return Ok(()) };
         if from.ip().to_canonical() != self.config.peer.ip().to_canonical() {
-            say(format_args!("a connection from {from}, which is not the peer, is closed"));
+            self.note(format_args!("a connection from {from}, which is not the peer, is closed"));
             return Ok(());
         }
         if matches!(self.link, Link::Open(_)) {
@@ -430,7 +450,7 @@ impl Host {
     fn feed(&mut self, bytes: &[u8]) -> Result<(), String> {
         let Link::Open(connection) = &mut self.link else { return Ok(()) };
         let (tun, device, lost) = (&self.tun, &mut self.device, std::cell::Cell::new(0));
-        let mut changed = false;
+        let (mut assigned, mut advertised) = (false, false);
         let result = self.end.feed(bytes, |event| match event {
             Event::Packet(packet) => {
                 let mut file: &File = tun;
@@ -438,12 +458,20 @@ impl Host {
                     lost.set(lost.get() + 1);
                 }
             }
-            Event::Addresses(list) => (device.addresses, changed) = (list, true),
-            Event::Routes(list) => (device.routes, changed) = (list, true),
+            Event::Addresses(list) => (device.addresses, assigned) = (list, true),
+            Event::Routes(list) => (device.routes, advertised) = (list, true),
             Event::Capsule(bytes) => connection.send(bytes),
         });
         self.end.counters.device += lost.get();
-        if changed {
+        if assigned {
+            let line = told(self.device.addresses.iter().map(text::entry));
+            self.note(format_args!("assigned {line}"));
+        }
+        if advertised {
+            let line = told(self.device.routes.iter().map(text::range));
+            self.note(format_args!("may reach {line}"));
+        }
+        if assigned || advertised {
             self.put_on_device();
         }
         match result {
@@ -531,11 +559,18 @@ impl Host {
         Ok(())
     }
 
+    /// A line of the log, of which only some a second are written, at the end of this turn.
+    fn note(&mut self, line: std::fmt::Arguments) {
+        self.log.admit(Instant::now(), || line.to_string());
+    }
+
     fn write_log(&mut self, now: Instant) {
+        self.log.take(now).iter().for_each(say);
         self.end.log.take(now).iter().for_each(say);
     }
 
     fn plans_differ(&mut self, theirs: &[u8]) {
+        self.write_log(Instant::now());
         say("the plans of the two ends differ: both need the same plan file");
         for (whose, plan) in [("this end's", self.end.plan()), ("the peer's", theirs)] {
             match crate::plan_text::show(plan) {

@@ -2,7 +2,7 @@
 
 use std::net::{IpAddr, Ipv4Addr, Ipv6Addr};
 use std::str::FromStr;
-use whapirohi_tunnel::{Range, Span};
+use whapirohi_tunnel::{Entry, Range, Span};
 
 /// The protocols that have a name in a configuration; 0 is any protocol.
 pub const PROTOCOLS: [(u8, &str); 5] = [(0, "any"), (1, "icmp"), (6, "tcp"), (17, "udp"), (58, "icmp6")];
@@ -119,6 +119,16 @@ pub(crate) fn span_between(bits: u8, start: u128, end: u128) -> Span {
 /// The number whose lowest bits are 1, so many of them.
 fn ones(count: u8) -> u128 {
     u128::MAX.checked_shr(128 - u32::from(count)).unwrap_or(0)
+}
+
+/// An entry as it was given: its prefix and the request that it answers, if any.
+pub fn entry(entry: &Entry) -> String {
+    let Entry { request_id, address, prefix_length } = entry;
+    match (entry.is_declined(), request_id) {
+        (true, _) => format!("none for request {request_id}"),
+        (false, 0) => format!("{address}/{prefix_length}"),
+        (false, _) => format!("{address}/{prefix_length} for request {request_id}"),
+    }
 }
 
 /// Bytes as lower-case hex without spaces.

@@ -1,8 +1,8 @@
 //! Addresses, prefixes and ranges as text.
 
 use std::net::IpAddr;
-use whapirohi_box::text::{decimal, prefix, prefixes, protocol, range, span, span_of};
-use whapirohi_tunnel::{Range, Span};
+use whapirohi_box::text::{self, decimal, prefix, prefixes, protocol, range, span, span_of};
+use whapirohi_tunnel::{Entry, Range, Span};
 
 const TOP4: &str = "255.255.255.255";
 const TOP6: &str = "ffff:ffff:ffff:ffff:ffff:ffff:ffff:ffff";
@@ -154,4 +154,15 @@ fn protocols_have_names_and_numbers() {
     for text in ["256", "-1", "+6", "06", "TCP", "sctp", ""] {
         assert!(protocol(text).unwrap_err().contains("any, icmp, tcp, udp, icmp6"), "{text}");
     }
+}
+
+#[test]
+fn entries_as_they_were_given() {
+    let entry = |request_id, text| {
+        let (address, prefix_length) = text::prefix(text).unwrap();
+        text::entry(&Entry { request_id, address, prefix_length })
+    };
+    assert_eq!(entry(0, "192.0.2.3"), "192.0.2.3/32");
+    assert_eq!(entry(2, "2001:db8::/64"), "2001:db8::/64 for request 2");
+    assert_eq!(entry(3, "0.0.0.0"), "none for request 3");
 }

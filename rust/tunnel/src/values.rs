@@ -53,6 +53,14 @@ pub struct Template {
     pub checksum: Option<Checksum>,
 }
 
+impl Entry {
+    /// Whether it says no to a request: the all-zero address with its full length, which covers nothing (RFC 9484, section 4.7.2).
+    pub fn is_declined(&self) -> bool {
+        let full_length = if self.address.is_ipv4() { 32 } else { 128 };
+        self.address.is_unspecified() && self.prefix_length == full_length
+    }
+}
+
 impl Span {
     /// `None` where the two are of different versions.
     pub fn new(start: IpAddr, end: IpAddr) -> Option<Span> {

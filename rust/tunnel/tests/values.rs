@@ -349,3 +349,15 @@ fn a_range_has_one_version() {
     assert_eq!(Span::new(v4(1).into(), v6(2).into()), None);
     assert_eq!(Span::new(v6(1).into(), v4(2).into()), None);
 }
+
+#[test]
+fn declined_entries() {
+    let entry =
+        |address: &str, prefix_length| Entry { request_id: 1, address: address.parse().unwrap(), prefix_length };
+    assert!(entry("0.0.0.0", 32).is_declined() && entry("::", 128).is_declined());
+    for (address, prefix_length) in
+        [("0.0.0.0", 31), ("0.0.0.0", 0), ("::", 32), ("::", 0), ("0.0.0.1", 32), ("::1", 128)]
+    {
+        assert!(!entry(address, prefix_length).is_declined(), "{address}/{prefix_length}");
+    }
+}
