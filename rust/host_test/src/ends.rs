@@ -80,6 +80,7 @@ impl Lines {
 #[derive(Clone, Copy)]
 pub struct Options<'a> {
     pub plan: &'a [Template],
+    /// 0 for no such line.
     pub mtu: usize,
     pub apply: &'a str,
     /// Over the link's IPv6 addresses.
@@ -124,9 +125,10 @@ impl<'a> Lab<'a> {
                 format!("plan {tun}.plan\n")
             }
         };
-        let (mtu, apply) = (o.mtu, o.apply);
+        let apply = o.apply;
+        let mtu = if o.mtu == 0 { String::new() } else { format!("mtu {}\n", o.mtu) };
         Ok(format!(
-            "tun {tun}\nmtu {mtu}\nudp {own}:{UDP_PORT} {peer}:{UDP_PORT}\n{stream} {server}:{STREAM_PORT}\n{plan}{more}apply {apply}\n"
+            "tun {tun}\n{mtu}udp {own}:{UDP_PORT} {peer}:{UDP_PORT}\n{stream} {server}:{STREAM_PORT}\n{plan}{more}apply {apply}\n"
         ))
     }
 

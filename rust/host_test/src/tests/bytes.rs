@@ -2,12 +2,13 @@
 
 use super::Run;
 use crate::capsules::{assign, routes};
-use crate::check::{Outcome, While};
+use crate::check::{Outcome, While, SOON};
 use crate::ends::{Lab, Options, Rise, CLINIC_TUN, PLAIN, VAN_TUN};
 use crate::ensure;
+use crate::net::LINK;
 use crate::packets::{lowered, Flow, CLINIC4, CLINIC6, OUT4, OUT6, UDP, VAN4, VAN6};
 use crate::peer::{arrives, clinic_socket, Peer};
-use crate::plan::{both_ways, datagram, drivers, file, PORTS};
+use crate::plan::{both_ways, datagram, drivers, file, Template, PORTS};
 use crate::random::Random;
 use crate::tap::{carry, passes, Tap};
 
@@ -17,6 +18,9 @@ pub const TESTS: &[(&str, Run)] = &[
     ("bytes: the drivers' plan, mtu 1280", |lab| carried(lab, &Options { plan: &drivers(), mtu: 1280, ..PLAIN })),
     ("bytes: over a link of IPv6", |lab| carried(lab, &Options { plan: &both_ways(), link6: true, ..PLAIN })),
     ("bytes: datagrams on the link", on_the_link),
+    ("bytes: the mtu of the link, IPv4", |lab| whole(lab, &[], false, 1500 - 28 - 1)),
+    ("bytes: the mtu of the link, IPv6", |lab| whole(lab, &[], true, 1500 - 48 - 1)),
+    ("bytes: the mtu of the link, Context ID of 8 bytes", |lab| whole(lab, &long_id(), false, 1500 - 28 - 8)),
 ];
 
 /// Each size near the ends, and some between.
@@ -87,6 +91,28 @@ fn carried(lab: &Lab, options: &Options) -> Outcome {
         sender.counters()?.rose(&before.0, Rise::passed("sent", options.plan, &lowered))?;
         receiver.counters()?.rose(&before.1, Rise::passed("received", options.plan, &lowered))?;
     }
+    Ok(())
+}
+
+/// A template that saves one byte and costs eight.
+fn long_id() -> Vec<Template> {
+    vec![Template { id: 1 << 61, segments: vec![(0, vec![0x45])], checksum: None }]
+}
+
+/// Without an mtu in the configuration the device has this one, and a packet of that length is one packet of the link.
+fn whole(lab: &Lab, plan: &[Template], link6: bool, mtu: usize) -> Outcome {
+    let _ends = lab.start_both(&Options { plan, mtu: 0, link6, ..PLAIN })?;
+    let device = lab.van.ip(&format!("link show dev {VAN_TUN}"))?;
+    ensure!(device.contains(&format!("mtu {mtu} ")), "an mtu of {mtu} is expected: {device}");
+    let (at_van, at_clinic) = (Tap::open(&lab.van, VAN_TUN)?, Tap::open(&lab.clinic, CLINIC_TUN)?);
+    passes(&at_van, &at_clinic, OUT4)?;
+    let on_link = Tap::open(&lab.clinic, LINK)?;
+    let packet = OUT4.udp(PORTS, &vec![7; mtu - 28]);
+    carry(&at_van, &at_clinic, std::slice::from_ref(&packet))?;
+    let datagram = datagram(plan, &lowered(&packet));
+    let expected = datagram.len() + if link6 { 48 } else { 28 };
+    let found = on_link.next(SOON)?.ok_or("nothing on the link")?;
+    ensure!(found.len() == expected && found.ends_with(&datagram), "{} bytes on the link, not {expected}", found.len());
     Ok(())
 }
 
