@@ -123,6 +123,8 @@ fn open_udp(config: &Config) -> Result<UdpSocket, String> {
     let udp = UdpSocket::bind(config.local).map_err(failed(format!("bind {}", config.local)))?;
     udp.connect(config.peer).map_err(failed(format!("reach {}", config.peer)))?;
     udp.set_nonblocking(true).map_err(failed("be set up".to_string()))?;
+    // Until it was connected, the socket took datagrams from anyone.
+    while udp.recv(&mut [0]).is_ok() {}
     sys::widen_arrivals(&udp, ARRIVALS);
     Ok(udp)
 }
