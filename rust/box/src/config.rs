@@ -229,7 +229,8 @@ fn in_order(mut routes: Vec<(usize, Range)>) -> Result<Vec<Range>, Fault> {
 fn device(name: &str) -> Result<String, String> {
     let plain = |byte: u8| byte.is_ascii_alphanumeric() || b"-_.".contains(&byte);
     match name {
-        "." | ".." => Err(format!("`{name}` cannot be the name of a device")),
+        // The last two stand for all devices in the kernel's settings.
+        "." | ".." | "all" | "default" => Err(format!("`{name}` cannot be the name of a device")),
         _ if name.len() <= NAME_LIMIT && name.bytes().all(plain) => Ok(name.to_string()),
         _ => {
             Err(format!("`{name}`: the name of a device has at most {NAME_LIMIT} of letters, digits, `-`, `_` and `.`"))
@@ -263,6 +264,9 @@ fn socket(text: &str) -> Result<SocketAddr, String> {
             Err(format!("{}: a multicast address", address.ip()))
         }
         (Some(address), Some(_)) => Ok(address),
+        _ if text.contains('%') => {
+            Err(format!("`{text}`: behind % stands the number of a device, as `ip link` shows it: [fe80::1%2]:4433"))
+        }
         _ => Err(format!("`{text}`: write an address and a port such as 192.0.2.1:4433 or [2001:db8::1]:4433")),
     }
 }

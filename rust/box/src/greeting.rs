@@ -25,13 +25,15 @@ pub fn plan(line: &[u8]) -> Result<Vec<u8>, String> {
             number::DONE => Ok(plan),
             number => Err(format!("the peer's first line has no plan: {}", Refusal(number))),
         },
-        Some((text, None)) if text.starts_with("whapirohi ") && !text.starts_with("whapirohi 1 ") => {
-            let version: String =
-                text.chars().skip("whapirohi ".len()).take_while(|c| c.is_ascii_digit()).take(9).collect();
-            Err(format!("the peer speaks version {version} of whapirohi, this end version 1"))
+        Some((text, None)) if version(text).is_some_and(|version| version != 1) => {
+            Err(format!("the peer speaks another version of whapirohi than 1: {}", version(text).unwrap_or_default()))
         }
         _ => Err("the peer's first line is not `whapirohi 1 plan HEX`".to_string()),
     }
+}
+
+fn version(line: &str) -> Option<u32> {
+    line.strip_prefix("whapirohi ")?.split(' ').next()?.parse().ok()
 }
 
 #[cfg(test)]
@@ -59,6 +61,8 @@ mod tests {
             b"whapirohi 1 plan 56414e000100",
             b"whapirohi 1 plan 56\r\n",
             b"WHAPIROHI 1 plan 56\n",
+            b"whapirohi \n",
+            b"whapirohi x plan 56\n",
             b"GET / HTTP/1.1\r\n",
             b"\xFF\xFE\n",
             b"\n",
@@ -66,6 +70,6 @@ mod tests {
         ] {
             assert!(plan(other).unwrap_err().contains("first line"), "{other:?}");
         }
-        assert!(plan(b"whapirohi 2 plan 56\n").unwrap_err().contains("version 2"));
+        assert!(plan(b"whapirohi 2 plan 56\n").unwrap_err().contains("another version of whapirohi than 1: 2"));
     }
 }

@@ -8,7 +8,7 @@ use crate::config::{Apply, Config, Stream, MTU_LEAST_IPV6};
 use crate::end::{End, Event};
 use crate::greeting;
 use crate::log::{put, say, Limit};
-use crate::stream::{Arrived, Connection};
+use crate::stream::{Connection, Greeting};
 use crate::sys::{self, Batch, Watch, BATCH, ROOM};
 use crate::text;
 use std::fs::File;
@@ -36,6 +36,9 @@ const SILENCE: u32 = 30;
 /// for silence.
 const ARRIVALS: usize = 4 << 20;
 
+/// More datagrams than a socket's buffer holds before it is widened.
+const UNCONNECTED: usize = 1 << 16;
+
 /// The most lines a second about lists and about connections that are not the peer's, which may come in any number.
 const NOTED_LINES: u32 = 10;
 
@@ -55,12 +58,13 @@ pub enum Ending {
 
 /// Where the stream stands.
 enum Link {
-    /// A listening end waits for its peer.
-    Listening,
+    /// None: a listening end waits for its peer, a connecting one for the peer's first line.
+    Down,
     /// A connecting end waits until then.
     Paused(Instant),
     Connecting(TcpStream, Instant),
-    Open(Box<Connection>),
+    /// Up, since then.
+    Up(Box<Connection>, Instant),
 }
 
 struct Host {
@@ -72,6 +76,8 @@ struct Host {
     control: UnixListener,
     listener: Option<TcpListener>,
     link: Link,
+    /// A connection whose first line is awaited. A stream that is up stays so until the line is there.
+    newcomer: Option<Box<Connection>>,
     pause: Duration,
     /// Datagrams to the link and from it.
     out: Batch,
@@ -123,8 +129,12 @@ fn open_udp(config: &Config) -> Result<UdpSocket, String> {
     let udp = UdpSocket::bind(config.local).map_err(failed(format!("bind {}", config.local)))?;
     udp.connect(config.peer).map_err(failed(format!("reach {}", config.peer)))?;
     udp.set_nonblocking(true).map_err(failed("be set up".to_string()))?;
-    // Until it was connected, the socket took datagrams from anyone.
-    while udp.recv(&mut [0]).is_ok() {}
+    // Until it was connected, the socket took datagrams from anyone: as many as its buffer holds.
+    for _ in 0..UNCONNECTED {
+        if udp.recv(&mut [0]).is_err_and(|error| error.kind() == ErrorKind::WouldBlock) {
+            break;
+        }
+    }
     sys::widen_arrivals(&udp, ARRIVALS);
     Ok(udp)
 }
@@ -199,7 +209,7 @@ impl Host {
         let link = match config.stream {
             Stream::Listen(address) => {
                 say(format_args!("listening on {address}"));
-                Link::Listening
+                Link::Down
             }
             Stream::Connect(_) => Link::Paused(Instant::now()),
         };
@@ -212,6 +222,7 @@ impl Host {
             control,
             listener,
             link,
+            newcomer: None,
             pause: FIRST_PAUSE,
             out: Batch::default(),
             arrived: Batch::default(),
@@ -232,9 +243,10 @@ impl Host {
         let listener = self.listener.as_ref().map(|listener| watch.add(listener, true, false));
         let stream = match &self.link {
             Link::Connecting(stream, _) => Some(watch.add(stream, false, true)),
-            Link::Open(connection) => Some(watch.add(&connection.stream, connection.wants_more(), connection.waits())),
-            Link::Listening | Link::Paused(_) => None,
+            Link::Up(stream, _) => Some(watch.add(&stream.stream, stream.wants_more(), stream.waits())),
+            Link::Down | Link::Paused(_) => None,
         };
+        let newcomer = self.newcomer.as_ref().map(|newcomer| watch.add(&newcomer.stream, true, newcomer.waits()));
         watch.wait(self.wait()).map_err(|error| format!("cannot wait: {error}"))?;
         let ready = |place: Option<usize>| place.is_some_and(|place| watch.ready(place));
 
@@ -250,7 +262,10 @@ impl Host {
         if ready(Some(control)) {
             self.answer_control();
         }
-        if ready(stream) && self.serve_stream()? {
+        if ready(stream) {
+            self.serve_stream()?;
+        }
+        if ready(newcomer) && self.serve_newcomer()? {
             return Ok(Some(Ending::PlansDiffer));
         }
         if ready(listener) {
@@ -262,13 +277,12 @@ impl Host {
 
     /// How long to wait, in milliseconds: until the next thing is due.
     fn wait(&self) -> i32 {
-        let due = match &self.link {
-            Link::Listening => None,
-            Link::Paused(until) => Some(*until),
-            Link::Connecting(_, until) => Some(*until),
-            Link::Open(connection) => connection.deadline,
+        let link = match &self.link {
+            Link::Paused(until) | Link::Connecting(_, until) => Some(*until),
+            Link::Down | Link::Up(..) => None,
         };
-        match due.into_iter().chain(self.end.log.due()).chain(self.log.due()).min() {
+        let newcomer = self.newcomer.as_ref().map(|newcomer| newcomer.deadline);
+        match [link, newcomer, self.end.log.due(), self.log.due()].into_iter().flatten().min() {
             None => -1,
             // A millisecond more, so as not to wake before it.
             Some(until) => until.saturating_duration_since(Instant::now()).as_millis() as i32 + 1,
@@ -301,6 +315,8 @@ impl Host {
             match error.kind() {
                 ErrorKind::WouldBlock => return,
                 ErrorKind::Interrupted => {}
+                // The peer's host said of an earlier datagram that nobody takes it; this one was not tried.
+                ErrorKind::ConnectionRefused => self.end.counters.link += 1,
                 _ => {
                     self.end.counters.link += 1;
                     self.out.skip();
@@ -352,105 +368,120 @@ impl Host {
         }
     }
 
-    /// A connection of the peer; a newer one takes the place of an older one, whose peer may be gone without a word.
+    /// A connection of the peer.
     fn accept(&mut self) -> Result<(), String> {
         let Some(Ok((stream, from))) = self.listener.as_ref().map(TcpListener::accept) else { return Ok(()) };
         if from.ip().to_canonical() != self.config.peer.ip().to_canonical() {
             self.note(format_args!("a connection from {from}, which is not the peer, is closed"));
             return Ok(());
         }
-        if matches!(self.link, Link::Open(_)) {
-            self.down(format_args!("the peer connected again"))?;
-        }
-        self.begin(stream, from)
+        self.greet(stream, from)
     }
 
-    /// A connection stands: the greeting goes out.
-    fn begin(&mut self, stream: TcpStream, peer: SocketAddr) -> Result<(), String> {
+    /// A connection stands: the first line goes out, and the peer's is awaited.
+    fn greet(&mut self, stream: TcpStream, peer: SocketAddr) -> Result<(), String> {
         let set_up = stream
             .set_nonblocking(true)
             .and_then(|()| stream.set_nodelay(true))
             .and_then(|()| sys::notice_silence(&stream, SILENCE));
         if let Err(error) = set_up {
-            return self.down(format_args!("{error}"));
+            return self.turn_away(format_args!("{error}"));
         }
-        self.end.start().map_err(|refusal| format!("plan: {refusal}"))?;
-        // The way to the peer may be another than before: its source address is chosen again.
-        (self.udp, self.out) = (None, Batch::default());
-        let udp = open_udp(&self.config);
         let line = greeting::line(self.end.plan());
-        self.link = Link::Open(Box::new(Connection::new(stream, &line, Instant::now() + PATIENCE)));
-        match udp {
-            Err(error) => self.down(format_args!("{error}")),
-            Ok(udp) => {
-                self.udp = Some(udp);
-                say(format_args!("connected with {peer}"));
+        self.newcomer = Some(Box::new(Connection::new(stream, &line, Instant::now() + PATIENCE)));
+        say(format_args!("connected with {peer}"));
+        Ok(())
+    }
+
+    /// The first line of a connection may be there. Whether the plans differ.
+    fn serve_newcomer(&mut self) -> Result<bool, String> {
+        let Some(mut newcomer) = self.newcomer.take() else { return Ok(false) };
+        match newcomer.first_line() {
+            Ok(None) => self.newcomer = Some(newcomer),
+            Ok(Some(Greeting { plan, rest })) if plan == self.end.plan() => {
+                self.up(newcomer)?;
+                self.feed(&rest)?;
+            }
+            Ok(Some(Greeting { plan, .. })) => {
+                self.plans_differ(&plan);
+                newcomer.finish();
+                return Ok(true);
+            }
+            Err(why) => self.turn_away(format_args!("{why}"))?,
+        }
+        Ok(false)
+    }
+
+    /// A connection does not become the stream.
+    fn turn_away(&mut self, why: std::fmt::Arguments) -> Result<(), String> {
+        match self.link {
+            Link::Up(..) => {
+                self.note(format_args!("the stream stays up; a newer connection is closed: {why}"));
                 Ok(())
             }
+            _ => self.down(why),
         }
     }
 
-    /// The stream can be read or written, or is broken. Whether the plans differ.
-    fn serve_stream(&mut self) -> Result<bool, String> {
-        match std::mem::replace(&mut self.link, Link::Listening) {
+    /// The stream can be read or written, or is broken.
+    fn serve_stream(&mut self) -> Result<(), String> {
+        match std::mem::replace(&mut self.link, Link::Down) {
             Link::Connecting(stream, _) => {
                 let failed = stream.take_error().unwrap_or_else(Some);
                 match (failed, stream.peer_addr()) {
-                    (None, Ok(peer)) => self.begin(stream, peer)?,
+                    (None, Ok(peer)) => self.greet(stream, peer)?,
                     (failed, peer) => {
                         let error =
-                            failed.or(peer.err()).map_or("cannot connect".to_string(), |error| error.to_string());
+                            failed.or(peer.err()).map_or("no connection".to_string(), |error| error.to_string());
                         self.paused(format_args!("cannot connect: {error}"));
                     }
                 }
             }
-            Link::Open(mut connection) => {
-                let arrived = connection.arrive();
-                self.link = Link::Open(connection);
-                return self.arrived(arrived);
+            Link::Up(mut stream, since) => {
+                let capsules = stream.capsules();
+                self.link = Link::Up(stream, since);
+                match capsules {
+                    Ok(bytes) => self.feed(&bytes)?,
+                    Err(why) => {
+                        let middle = if self.end.capsule_is_open() { ", in the middle of a capsule" } else { "" };
+                        self.down(format_args!("{why}{middle}"))?;
+                    }
+                }
             }
             other => self.link = other,
         }
-        Ok(false)
+        Ok(())
     }
 
-    fn arrived(&mut self, arrived: Arrived) -> Result<bool, String> {
-        match arrived {
-            Arrived::Nothing => {}
-            Arrived::Plan(Ok(plan), rest) => {
-                if plan != self.end.plan() {
-                    self.plans_differ(&plan);
-                    return Ok(true);
-                }
-                self.up()?;
-                self.feed(&rest)?;
-            }
-            Arrived::Plan(Err(reason), _) => self.down(format_args!("{reason}"))?,
-            Arrived::Capsules(bytes) => self.feed(&bytes)?,
-            Arrived::Closed(reason) => {
-                let middle = if self.end.capsule_is_open() { ", in the middle of a capsule" } else { "" };
-                self.down(format_args!("{reason}{middle}"))?;
-            }
+    /// The peer's plan is ours: from a fresh state the capsules go out, and packets are carried. A newer stream takes the place of an older
+    /// one, whose peer may be gone without a word.
+    fn up(&mut self, mut stream: Box<Connection>) -> Result<(), String> {
+        if let Link::Up(..) = self.link {
+            self.down(format_args!("the peer connected again"))?;
         }
-        Ok(false)
-    }
-
-    /// The peer's plan is ours: the capsules go out, and packets are carried.
-    fn up(&mut self) -> Result<(), String> {
+        self.end.start().map_err(|refusal| format!("plan: {refusal}"))?;
+        // The way to the peer may be another than before: its source address is chosen again.
+        (self.udp, self.out) = (None, Batch::default());
+        match open_udp(&self.config) {
+            Ok(udp) => self.udp = Some(udp),
+            Err(error) => return self.down(format_args!("{error}")),
+        }
         let opening = self.end.opening().map_err(|refusal| format!("the lists: {refusal}"))?;
+        stream.send(&opening);
+        self.link = Link::Up(stream, Instant::now());
         self.end.counters.up = true;
         self.end.counters.connections += 1;
-        if let Link::Open(connection) = &mut self.link {
-            connection.greeted(Instant::now());
-            connection.send(&opening);
-        }
         say("stream up");
+        if self.config.apply == Apply::Ip {
+            // All is put again, which does no harm: what stood there may be gone with a device that was down.
+            self.device.applied = Wanted::default();
+        }
         self.put_on_device();
         Ok(())
     }
 
     fn feed(&mut self, bytes: &[u8]) -> Result<(), String> {
-        let Link::Open(connection) = &mut self.link else { return Ok(()) };
+        let Link::Up(stream, _) = &mut self.link else { return Ok(()) };
         let (tun, device, lost) = (&self.tun, &mut self.device, std::cell::Cell::new(0));
         let (mut assigned, mut advertised) = (false, false);
         let result = self.end.feed(bytes, |event| match event {
@@ -462,7 +493,7 @@ impl Host {
             }
             Event::Addresses(list) => (device.addresses, assigned) = (list, true),
             Event::Routes(list) => (device.routes, advertised) = (list, true),
-            Event::Capsule(bytes) => connection.send(bytes),
+            Event::Capsule(bytes) => stream.send(bytes),
         });
         self.end.counters.device += lost.get();
         if assigned {
@@ -516,14 +547,12 @@ impl Host {
     /// The stream is over: nothing is granted any more.
     fn down(&mut self, why: std::fmt::Arguments) -> Result<(), String> {
         say(format_args!("stream down: {why}"));
-        if let Link::Open(connection) = &self.link {
-            if connection.up_for(Instant::now()) >= SETTLED {
-                self.pause = FIRST_PAUSE;
-            }
+        if matches!(self.link, Link::Up(_, since) if since.elapsed() >= SETTLED) {
+            self.pause = FIRST_PAUSE;
         }
         self.end.start().map_err(|refusal| format!("plan: {refusal}"))?;
         match self.config.stream {
-            Stream::Listen(_) => self.link = Link::Listening,
+            Stream::Listen(_) => self.link = Link::Down,
             Stream::Connect(_) => self.wait_longer(),
         }
         Ok(())
@@ -553,12 +582,12 @@ impl Host {
             (Link::Connecting(_, until), Stream::Connect(peer)) if now >= *until => {
                 self.paused(format_args!("cannot connect to {peer}: no answer"));
             }
-            (Link::Open(connection), _) if connection.deadline.is_some_and(|until| now >= until) => {
-                self.down(format_args!("the peer's first line did not come"))?;
-            }
             _ => {}
         }
-        Ok(())
+        match self.newcomer.take_if(|newcomer| now >= newcomer.deadline) {
+            Some(_) => self.turn_away(format_args!("the peer's first line did not come")),
+            None => Ok(()),
+        }
     }
 
     /// A line of the log, of which only some a second are written, at the end of this turn.
@@ -579,9 +608,6 @@ impl Host {
                 Ok(text) => say(format_args!("{whose} plan:\n{}", text.trim_end())),
                 Err(refusal) => say(format_args!("{whose} plan: {refusal}")),
             }
-        }
-        if let Link::Open(connection) = &mut self.link {
-            connection.finish();
         }
     }
 }

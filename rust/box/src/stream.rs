@@ -16,40 +16,29 @@ const FAREWELL: Duration = Duration::from_secs(1);
 
 pub struct Connection {
     pub stream: TcpStream,
-    /// When the peer's first line has to be there; `None` once it is.
-    pub deadline: Option<Instant>,
+    /// When the peer's first line has to be there.
+    pub deadline: Instant,
     greeting: Vec<u8>,
-    since: Option<Instant>,
     out: Vec<u8>,
     piece: Box<[u8]>,
 }
 
-/// What a stream that was ready came to.
-#[derive(Debug, PartialEq, Eq)]
-pub enum Arrived {
-    Nothing,
-    /// The plan of the peer's first line, or what is wrong with it, and the bytes behind it.
-    Plan(Result<Vec<u8>, String>, Vec<u8>),
-    Capsules(Vec<u8>),
-    /// It is over, and why.
-    Closed(String),
+/// The plan of a first line, and the bytes behind it.
+pub struct Greeting {
+    pub plan: Vec<u8>,
+    pub rest: Vec<u8>,
 }
 
 impl Connection {
+    /// Sends a first line, and awaits the peer's.
     pub fn new(stream: TcpStream, line: &str, deadline: Instant) -> Connection {
-        let mut connection = Connection {
-            stream,
-            deadline: Some(deadline),
-            greeting: Vec::new(),
-            since: None,
-            out: Vec::new(),
-            piece: vec![0; PIECE].into(),
-        };
+        let piece = vec![0; PIECE].into();
+        let mut connection = Connection { stream, deadline, greeting: Vec::new(), out: Vec::new(), piece };
         connection.send(line.as_bytes());
         connection
     }
 
-    /// Bytes for the peer; those that the system does not take now go later (`arrive`).
+    /// Bytes for the peer; those that the system does not take now go with a later call.
     pub fn send(&mut self, bytes: &[u8]) {
         self.out.extend_from_slice(bytes);
         // An error is one for the next read, too.
@@ -65,13 +54,38 @@ impl Connection {
         self.out.len() < BACKLOG
     }
 
-    pub fn greeted(&mut self, now: Instant) {
-        (self.deadline, self.since) = (None, Some(now));
+    /// The peer's first line, once it is there; or why there is none.
+    pub fn first_line(&mut self) -> Result<Option<Greeting>, String> {
+        let count = self.read()?;
+        self.greeting.extend_from_slice(&self.piece[..count]);
+        match self.greeting.iter().position(|byte| *byte == b'\n') {
+            Some(end) if end < LINE_LIMIT => {
+                let rest = self.greeting.split_off(end + 1);
+                Ok(Some(Greeting { plan: greeting::plan(&self.greeting)?, rest }))
+            }
+            None if self.greeting.len() < LINE_LIMIT => Ok(None),
+            _ => Err("the peer's first line is too long".to_string()),
+        }
     }
 
-    /// How long the stream has been up.
-    pub fn up_for(&self, now: Instant) -> Duration {
-        self.since.map_or(Duration::ZERO, |since| now.duration_since(since))
+    /// Bytes of capsules, none where none came; or why the stream is over.
+    pub fn capsules(&mut self) -> Result<Vec<u8>, String> {
+        let count = self.read()?;
+        Ok(self.piece[..count].to_vec())
+    }
+
+    /// Writes what waits, and reads a piece.
+    fn read(&mut self) -> Result<usize, String> {
+        self.flush().map_err(|error| error.to_string())?;
+        if !self.wants_more() {
+            return Ok(0);
+        }
+        match self.stream.read(&mut self.piece) {
+            Ok(0) => Err("closed by the peer".to_string()),
+            Ok(count) => Ok(count),
+            Err(error) if [ErrorKind::WouldBlock, ErrorKind::Interrupted].contains(&error.kind()) => Ok(0),
+            Err(error) => Err(error.to_string()),
+        }
     }
 
     fn flush(&mut self) -> std::io::Result<()> {
@@ -90,35 +104,6 @@ impl Connection {
         };
         self.out.drain(..written);
         result
-    }
-
-    /// Writes what waits, and reads a piece.
-    pub fn arrive(&mut self) -> Arrived {
-        if let Err(error) = self.flush() {
-            return Arrived::Closed(error.to_string());
-        }
-        if !self.wants_more() {
-            return Arrived::Nothing;
-        }
-        match self.stream.read(&mut self.piece) {
-            Ok(0) => Arrived::Closed("closed by the peer".to_string()),
-            Ok(count) if self.deadline.is_none() => Arrived::Capsules(self.piece[..count].to_vec()),
-            Ok(count) => self.greet(count),
-            Err(error) if [ErrorKind::WouldBlock, ErrorKind::Interrupted].contains(&error.kind()) => Arrived::Nothing,
-            Err(error) => Arrived::Closed(error.to_string()),
-        }
-    }
-
-    fn greet(&mut self, count: usize) -> Arrived {
-        self.greeting.extend_from_slice(&self.piece[..count]);
-        match self.greeting.iter().position(|byte| *byte == b'\n') {
-            Some(end) if end < LINE_LIMIT => {
-                let rest = self.greeting.split_off(end + 1);
-                Arrived::Plan(greeting::plan(&self.greeting), rest)
-            }
-            None if self.greeting.len() < LINE_LIMIT => Arrived::Nothing,
-            _ => Arrived::Plan(Err("the peer's first line is too long".to_string()), Vec::new()),
-        }
     }
 
     /// Sees to it that the peer gets what was written, its first line among them, before the connection is closed.

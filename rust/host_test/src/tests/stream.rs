@@ -21,6 +21,7 @@ pub const TESTS: &[(&str, Run)] = &[
     ("stream: no greeting", no_greeting),
     ("stream: a greeting without an end", endless_greeting),
     ("stream: a newer connection takes the place of an older one", newer),
+    ("stream: a newer connection that does not greet takes no place", not_greeted),
     ("stream: a connection of someone else", stranger),
     ("stream: packets in DATAGRAM capsules", datagrams),
 ];
@@ -211,6 +212,26 @@ fn newer(lab: &Lab) -> Outcome {
     let _second = good(lab, &mut clinic, &socket, &tap)?;
     first.closed()?;
     refused(&clinic, &tap, to_van())
+}
+
+/// Until its first line is there and good, a newer connection changes nothing.
+fn not_greeted(lab: &Lab) -> Outcome {
+    let mut clinic = lab.start_clinic(&PLAIN)?;
+    let (socket, tap) = (van_socket(lab)?, Tap::open(&lab.clinic, CLINIC_TUN)?);
+    let mut peer = good(lab, &mut clinic, &socket, &tap)?;
+    peer.send(&lists(to_van().source))?;
+    comes(&tap, &socket, to_van())?;
+    let _silent = Peer::connect(lab)?;
+    for line in ["whapirohi 1 plan 5\n", "whapirohi 2 plan 56414e000100\n", "GET / HTTP/1.1\r\n\r\n"] {
+        let mut newer = Peer::connect(lab)?;
+        newer.send(line.as_bytes())?;
+        newer.closed()?;
+    }
+    clinic.log.wait("the stream stays up; a newer connection is closed", 3)?;
+    comes(&tap, &socket, to_van())?;
+    let counters = clinic.counters()?;
+    ensure!(counters.up && counters.get("connections") == 1, "the stream did not stay up: {counters:?}");
+    Ok(())
 }
 
 /// Only the peer's address is taken; the stream that is up stays so.
