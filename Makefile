@@ -26,7 +26,7 @@ host: $(host) ## builds the static library and the program whapirohi
 	@echo "$(library)"
 	@echo "$(host)"
 
-demo: $(library) ## two ends in network namespaces of this machine, pings between them, and the counters; as root
+demo: $(host) ## two ends in network namespaces of this machine, pings between them, and the counters; as root
 	@scripts/demo
 
 install: $(library) $(host) $(programs) ## library, header, programs and manual page to PREFIX (/usr/local), below DESTDIR
@@ -48,5 +48,6 @@ $(programs): $(rattle)
 	@touch $@
 
 $(host): $(library) $(rust)
-	@env -u WHAPIROHI_LIB cargo build --release --offline --manifest-path rust/Cargo.toml -p whapirohi-box
+	@env -u WHAPIROHI_LIB cargo build --release --offline --manifest-path rust/Cargo.toml -p whapirohi-box -p whapirohi-host-test
+	@install -D "$${CARGO_TARGET_DIR:-rust/target}/release/host_test" target/host/host_test
 	@install -D "$${CARGO_TARGET_DIR:-rust/target}/release/whapirohi" $@

@@ -5,7 +5,7 @@ use std::fs;
 use std::io::Read;
 use std::net::{Ipv4Addr, Ipv6Addr, SocketAddr};
 use std::path::{Path, PathBuf};
-use whapirohi_tunnel::{address_words, route_words, templates, write_request};
+use whapirohi_tunnel::{address_words, number, route_words, templates, write_request};
 use whapirohi_tunnel::{Checksum, Entry, Range, Refusal, State, Template};
 use whapirohi_tunnel::{CAPSULE_ROOM, MAX_ADDRESSES, MAX_PACKET, MAX_RANGES, PLAN_ROOM};
 
@@ -40,6 +40,18 @@ pub struct Config {
     /// What is asked of the peer, with Request IDs from 1 on.
     pub request: Vec<Entry>,
     pub apply: Apply,
+}
+
+impl Config {
+    /// What may be a slip, though it can be meant: a peer with two addresses.
+    pub fn doubt(&self) -> Option<String> {
+        match self.stream {
+            Stream::Connect(address) if address.ip().to_canonical() != self.peer.ip().to_canonical() => {
+                Some(format!("connect goes to {}, and udp to {}: is that meant?", address.ip(), self.peer.ip()))
+            }
+            _ => None,
+        }
+    }
 }
 
 /// The words that start a line, and how a line of each is written.
@@ -180,7 +192,7 @@ impl Draft {
         let (address, prefix_length) = match text {
             "4" => (Ipv4Addr::UNSPECIFIED.into(), 32),
             "6" => (Ipv6Addr::UNSPECIFIED.into(), 128),
-            _ => text::prefix(text)?,
+            _ => text::prefix(text).map_err(|why| format!("{why}; write 4, 6 or a prefix"))?,
         };
         if self.request.len() == MAX_ADDRESSES {
             return Err(format!("more than {MAX_ADDRESSES} requests"));
@@ -286,6 +298,11 @@ fn plan(path: PathBuf) -> Result<(PathBuf, Vec<u8>), String> {
     file.map_err(|error| format!("{}: {error}", path.display()))?;
     match State::new().load_plan(&bytes) {
         0 => Ok((path, bytes)),
+        number::PLAN_MARK => Err(format!(
+            "{}: {}; a text is made into one by `whapirohi plan make`",
+            path.display(),
+            Refusal(number::PLAN_MARK)
+        )),
         number => Err(format!("{}: {}", path.display(), Refusal(number))),
     }
 }
@@ -324,6 +341,7 @@ pub fn describe(config: &Config) -> String {
         format!("udp from {} to {}", config.local, config.peer),
         format!("stream {stream}"),
     ];
+    lines.extend(config.doubt());
     lines.extend(describe_plan(config));
     lines.extend(list(
         "assigns",

@@ -68,7 +68,10 @@ fn command(words: &[&str]) -> Result<u8, Failure> {
             print(text.as_bytes())
         }
         ["plan", "explain", file, capture] => {
-            let text = explain::explain(&read(file)?, &read(capture)?).map_err(|words| Failure(WRONG, words))?;
+            let plan = read(file)?;
+            plan_text::read(&plan).map_err(|refusal| Failure(WRONG, format!("{file}: {refusal}")))?;
+            let text = explain::explain(&plan, &read(capture)?);
+            let text = text.map_err(|words| Failure(WRONG, format!("{capture}: {words}")))?;
             print(text.as_bytes())
         }
         ["--help" | "-h" | "help", ..] => print(HELP.as_bytes()),

@@ -206,6 +206,12 @@ impl Host {
         if mtu < MTU_LEAST_IPV6 {
             say(format_args!("the device carries no IPv6, which needs an mtu of {MTU_LEAST_IPV6}"));
         }
+        if let Some(doubt) = config.doubt() {
+            say(doubt);
+        }
+        if config.apply == Apply::None {
+            say("apply none: the ip commands for what comes are printed, and none is run");
+        }
         let link = match config.stream {
             Stream::Listen(address) => {
                 say(format_args!("listening on {address}"));
@@ -372,7 +378,8 @@ impl Host {
     fn accept(&mut self) -> Result<(), String> {
         let Some(Ok((stream, from))) = self.listener.as_ref().map(TcpListener::accept) else { return Ok(()) };
         if from.ip().to_canonical() != self.config.peer.ip().to_canonical() {
-            self.note(format_args!("a connection from {from}, which is not the peer, is closed"));
+            let peer = self.config.peer.ip();
+            self.note(format_args!("a connection from {from}, which is not the peer {peer}, is closed"));
             return Ok(());
         }
         self.greet(stream, from)
@@ -425,19 +432,14 @@ impl Host {
 
     /// The stream can be read or written, or is broken.
     fn serve_stream(&mut self) -> Result<(), String> {
-        match std::mem::replace(&mut self.link, Link::Down) {
-            Link::Connecting(stream, _) => {
-                let failed = stream.take_error().unwrap_or_else(Some);
-                match (failed, stream.peer_addr()) {
-                    (None, Ok(peer)) => self.greet(stream, peer)?,
-                    (failed, peer) => {
-                        let error =
-                            failed.or(peer.err()).map_or("no connection".to_string(), |error| error.to_string());
-                        self.paused(format_args!("cannot connect: {error}"));
-                    }
+        match (std::mem::replace(&mut self.link, Link::Down), self.config.stream) {
+            (Link::Connecting(stream, _), Stream::Connect(peer)) => {
+                match stream.take_error().unwrap_or_else(Some).or(stream.peer_addr().err()) {
+                    None => self.greet(stream, peer)?,
+                    Some(error) => self.paused(format_args!("cannot connect to {peer}: {error}")),
                 }
             }
-            Link::Up(mut stream, since) => {
+            (Link::Up(mut stream, since), _) => {
                 let capsules = stream.capsules();
                 self.link = Link::Up(stream, since);
                 match capsules {
@@ -448,7 +450,7 @@ impl Host {
                     }
                 }
             }
-            other => self.link = other,
+            (other, _) => self.link = other,
         }
         Ok(())
     }

@@ -165,12 +165,21 @@ impl IfReq {
 /// Opens a TUN device, which is made where it is missing, and goes when it is closed. A read is a packet, and so is a write.
 pub fn open_tun(name: &str) -> io::Result<File> {
     let file = OpenOptions::new().read(true).write(true).custom_flags(O_NONBLOCK).open("/dev/net/tun");
-    let file = file.map_err(|error| io::Error::other(format!("/dev/net/tun: {error}")))?;
+    let file = file.map_err(|error| io::Error::other(format!("/dev/net/tun: {error}{}", as_root(&error))))?;
     match IfReq::new(name)?.with_flags(IFF_TUN | IFF_NO_PI).ask(file.as_raw_fd(), TUNSETIFF) {
         Err(error) if error.kind() == io::ErrorKind::InvalidInput => {
             Err(io::Error::other(format!("a device of another kind has that name? {error}")))
         }
-        result => result.map(|()| file),
+        Err(error) => Err(io::Error::other(format!("{error}{}", as_root(&error)))),
+        Ok(()) => Ok(file),
+    }
+}
+
+fn as_root(error: &io::Error) -> &'static str {
+    if error.kind() == io::ErrorKind::PermissionDenied {
+        "; run it as root"
+    } else {
+        ""
     }
 }
 

@@ -122,6 +122,8 @@ fn unknown_words_and_counts() {
     assert_eq!(fault("\n  tunn van0\n").line, 2);
     assert!(fault("tunn van0").reason.starts_with("unknown word `tunn`; the words are tun, mtu, udp, listen,"));
     refused("Apply ip", "unknown word `Apply`");
+    refused("request 5", "write 4, 6 or a prefix");
+    assert!(fault("connect [fe80::1%eth0]:4434").reason.contains("the number of a device"));
     refused("apply\u{a0}ip", "unknown word");
     for (line, usage) in [
         ("mtu", "write mtu BYTES"),
@@ -403,4 +405,11 @@ apply prints the ip commands for the addresses and routes that come, and runs no
     config.plan = Some((PathBuf::from("p"), plan(EMPTY)));
     assert!(describe(&config).contains("mtu 1279, too small for IPv6"));
     assert!(describe(&config).contains("plan p, 6 bytes\n  no templates\n"));
+    // A slip, or a peer with two addresses.
+    assert_eq!(config.doubt(), None);
+    config.stream = Stream::Connect("198.51.100.7:4434".parse().unwrap());
+    assert_eq!(config.doubt(), None);
+    config.stream = Stream::Connect("198.51.100.8:4434".parse().unwrap());
+    let doubt = "connect goes to 198.51.100.8, and udp to 198.51.100.7: is that meant?";
+    assert!(describe(&config).contains(&format!("\n{doubt}\n")));
 }

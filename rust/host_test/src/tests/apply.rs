@@ -14,6 +14,7 @@ use std::net::IpAddr;
 pub const TESTS: &[(&str, Run)] = &[
     ("apply: both ends", |lab| applied(lab, &Options { mtu: 1400, ..PLAIN }).and_then(|_| has_mtu(lab))),
     ("apply: a new list replaces the old one", replaced),
+    ("apply: a device that was down has all again with the next stream", put_again),
     ("apply: none prints the commands", printed),
 ];
 
@@ -77,6 +78,20 @@ fn replaced(lab: &Lab) -> Outcome {
     waits(lab, &[&addresses[..], &parts].concat())?;
     peer.send(&[assign(&[]), routes(&[])].concat())?;
     waits(lab, &[])
+}
+
+/// With the device down, the kernel drops its routes.
+fn put_again(lab: &Lab) -> Outcome {
+    let all = ["address 192.0.2.3/32", "address 2001:db8:1::3/128", "route 198.51.100.0/24", "route 2001:db8:2::/64"];
+    let (van, clinic) = applied(lab, &PLAIN)?;
+    waits(lab, &all)?;
+    lab.van.ip(&format!("link set {VAN_TUN} down"))?;
+    lab.van.ip(&format!("link set {VAN_TUN} up"))?;
+    ensure!(!on_device(lab)?.contains(&"route 198.51.100.0/24".to_string()), "the route is still there");
+    clinic.kill()?;
+    let _clinic = lab.start_clinic(&Options { apply: "ip", ..PLAIN })?;
+    van.log.wait("stream up", 2)?;
+    waits(lab, &all)
 }
 
 fn printed(lab: &Lab) -> Outcome {
