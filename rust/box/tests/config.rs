@@ -413,3 +413,40 @@ apply prints the ip commands for the addresses and routes that come, and runs no
     let doubt = "connect goes to 198.51.100.8, and udp to 198.51.100.7: is that meant?";
     assert!(describe(&config).contains(&format!("\n{doubt}\n")));
 }
+
+/// Whatever a file says, it is a configuration or a fault on one of its lines; and what is taken is described.
+#[test]
+fn damaged_configurations_get_an_answer() {
+    let mut seed = 20261117_u64;
+    let mut random = |below: usize| {
+        seed ^= seed << 13;
+        seed ^= seed >> 7;
+        seed ^= seed << 17;
+        (seed >> 33) as usize % below
+    };
+    let signs: Vec<char> = " \t\n#.:/-%[]0123456789abcdefxé".chars().collect();
+    let (mut taken, mut refused) = (0, 0);
+    for _ in 0..20_000 {
+        let mut text: Vec<char> = WHOLE.chars().collect();
+        for _ in 0..=random(3) {
+            let at = random(text.len());
+            match random(3) {
+                0 => drop(text.remove(at)),
+                1 => text.insert(at, signs[random(signs.len())]),
+                _ => text[at] = signs[random(signs.len())],
+            }
+        }
+        let text: String = text.into_iter().collect();
+        match parse(&text, Path::new("")) {
+            Ok(config) => {
+                assert!(describe(&config).lines().count() >= 8);
+                taken += 1;
+            }
+            Err(fault) => {
+                assert!(fault.line <= text.lines().count() && !fault.reason.is_empty(), "{text}");
+                refused += 1;
+            }
+        }
+    }
+    assert!(taken > 1000 && refused > 1000, "{taken} taken, {refused} refused");
+}
