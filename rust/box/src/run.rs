@@ -484,20 +484,15 @@ impl Host {
 
     fn feed(&mut self, bytes: &[u8]) -> Result<(), String> {
         let Link::Up(stream, _) = &mut self.link else { return Ok(()) };
-        let (tun, device, lost) = (&self.tun, &mut self.device, std::cell::Cell::new(0));
-        let (mut assigned, mut advertised) = (false, false);
+        let (mut tun, device) = (&self.tun, &mut self.device);
+        let (mut lost, mut assigned, mut advertised) = (0, false, false);
         let result = self.end.feed(bytes, |event| match event {
-            Event::Packet(packet) => {
-                let mut file: &File = tun;
-                if file.write(packet).is_err() {
-                    lost.set(lost.get() + 1);
-                }
-            }
+            Event::Packet(packet) => lost += u64::from(tun.write(packet).is_err()),
             Event::Addresses(list) => (device.addresses, assigned) = (list, true),
             Event::Routes(list) => (device.routes, advertised) = (list, true),
             Event::Capsule(bytes) => stream.send(bytes),
         });
-        self.end.counters.device += lost.get();
+        self.end.counters.device += lost;
         if assigned {
             let line = told(self.device.addresses.iter().map(text::entry));
             self.note(format_args!("assigned {line}"));
