@@ -1,5 +1,7 @@
 // What the box answers: the refusals with their numbers, the answer of an entry point that writes, and the verdict of one that judges.
 // The numbers are those of the table "Numbers the box gives back"; 8 and 17 to 19 are not in it.
+#![tactic(auto)]
+
 ghost use Rattle.std.specs.Prelude.{◌≡◌};
 ghost use Rattle.answer.specs.Number.{number_of, verdict_number, answer_number, answer_length};
 

@@ -2,6 +2,8 @@
 // and any other type, which is skipped whole. A capsule read says where its value stands; the list of a value is read from there.
 // Refused, in this order: a capsule that is not all there (1; of types 0 to 3 a value over the limit first, 2), then the first fault
 // element by element (3 or 4 before 6 or 5), an empty request (6), a list over its limit (7).
+#![tactic(auto)]
+
 mod element;
 mod list;
 

@@ -1,6 +1,8 @@
 // Capsules written to a lent output (RFC 9297, section 3.2; RFC 9484, section 4.7), all numbers in their shortest form.
 // Refused, in this order: too small an output (16), a DATAGRAM value over the limit (2), the first fault of a list element by
 // element (3 before 6, 4 before 5), an empty request (6), a list over its limit (7). A refusal alters no byte.
+#![tactic(auto)]
+
 mod element;
 mod judge;
 mod list;

@@ -1,5 +1,7 @@
 // The chain of IPv6 headers (RFC 8200, section 4): from the number in the IPv6 header on, to the first that names no extension header.
 // The packet is in two parts, of which a header may have bytes in both.
+#![tactic(auto)]
+
 mod class; // class.rt: which numbers name extension headers
 
 ghost use Rattle.std.specs.Prelude.{◌≡◌, ◌++◌, ◌≤◌, ◌<◌, ◌+◌, ◌*◌, length, get_or, drop};

@@ -1,5 +1,7 @@
 // Chains of IPv6 headers, written out by hand from RFC 8200 (authentication from RFC 4302, mobility from RFC 6275), are sent and received, and what came out is
 // compared with the file `stdout`. The van was given 2001:db8::1, and a route for UDP alone to 2001:db8::2.
+#![tactic(auto)]
+
 use answer::Answer;
 use capsule_write::CAPSULE_ROOM;
 use lists::ADDRESS_WORDS;

@@ -1,5 +1,7 @@
 // The grants in force between two ends, by value: the lists received from the other end, and those given to it. They are loaded from a state,
 // come back with exactly one list replaced, and are stored again; what capsules do to them is in the crate above.
+#![tactic(auto)]
+
 ghost use Rattle.std.specs.Prelude.{◌≡◌, ◌≤◌, length};
 ghost use Rattle.lists.specs.Words.{address_words, route_words};
 ghost use Rattle.state.specs.State.{state_words};

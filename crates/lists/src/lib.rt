@@ -1,6 +1,8 @@
 // Address entries and route ranges (RFC 9484, sections 4.7.1 to 4.7.3), the rules of each, and lists of them.
 // A list is one flat array of words: word 0 is the count, and each element has a fixed number of words after it. What stands past the
 // count is 0 where the box made the list, and is ignored where one is handed in. Nothing here refuses: the tests answer yes or no.
+#![tactic(auto)]
+
 ghost use Rattle.std.specs.Prelude.{◌≡◌, true, ◌+◌, ◌*◌, ◌^◌, ◌≤◌, ◌<◌, ltb, length};
 ghost use Rattle.lists.specs.Rules.{sound_entry, sound_range, in_order, before_all};
 ghost use Rattle.lists.specs.Words.{max_addresses, max_ranges, address_words, route_words, entry_at, range_at, entries_of, ranges_of, put_entry, put_range, sound_addresses, sound_routes, no_addresses, no_routes};

@@ -1,6 +1,8 @@
 // Numbers as bytes and as words: the big-endian value of up to 8 bytes, the bytes of a number, numbers of 128 bits in two words of 64,
 // the smaller of two lengths, and bytes and words copied.
 // The inner functions of the codecs above; each says what it requires, and no entry point of the box is here.
+#![tactic(auto)]
+
 ghost use Rattle.std.specs.Prelude.{◌≡◌, ◌++◌, ◌+◌, ◌-◌, ◌*◌, ◌<◌, ◌≤◌, ◌^◌, min, leb, ltb, length, take, drop};
 ghost use Rattle.octets.specs.Big.{big_from, big_at, digits};
 ghost use Rattle.octets.specs.Wide.{wide, low_zero};
@@ -101,7 +103,7 @@ pub fn least(a: usize, b: usize) -> usize
 // The bytes of a block.
 const BLOCK: usize = 4096;
 
-// Copies all of src to the front of dst, and returns its length: as the kit's `bytes::copy`, block by block.
+// Copies all of src to the front of dst, and returns its length: block by block.
 pub fn copy(src: &[u8], dst: &mut [u8]) -> usize
     requires { length src.now ≤ length dst.old }
     ensures value { result ≡ length src.now }
@@ -123,9 +125,10 @@ fn copy_block(src: &[u8], dst: &mut [u8])
     requires { (length src.now ≤ block) × (length src.now ≤ length dst.old) }
     ensures { dst.new ≡ src.now ++ drop (length src.now) dst.old }
 {
+    let n = src.len();
     let mut through = [0u8; BLOCK];
-    let n = bytes::copy(src, &mut through);
-    bytes::copy(&through[..n], dst);
+    through[..n].copy_from_slice(src);
+    dst[..n].copy_from_slice(&through[..n]);
 }
 
 // Copies words to as many words.

@@ -1,4 +1,6 @@
 // The arguments of the programs: which ask for help, and which are options and not the name of a file.
+#![tactic(auto)]
+
 ghost use Rattle.std.specs.Prelude.{◌≡◌, eqb, get_or};
 ghost use Rattle.options.specs.Help.{AsksHelp, dash};
 

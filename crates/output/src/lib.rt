@@ -1,5 +1,7 @@
 // Bytes put at a place of a lent output: each function hands back the place behind them, and every other byte stays as it was.
 // Inner functions of the writers above, which have tested that there is room.
+#![tactic(auto)]
+
 ghost use Rattle.std.specs.Prelude.{◌+◌, ◌<◌, ◌≤◌, [], ◌∷◌, length};
 ghost use Rattle.octets.specs.Big.{digits};
 ghost use Rattle.output.specs.Places.{Put};

@@ -1,6 +1,8 @@
 // Reads a plan file, by its name or on standard input, and writes a line for the plan and one for each template; or the number of its refusal.
 // The program only moves bytes: the lines are made by `plan_lines`, over slices.
 // A plan file has at most 1,398 bytes, so that what is read decides the answer also where the input goes on (`front_decides` in proofs/).
+#![tactic(auto)]
+
 mod lines; // lines.rt: the lines of a plan file
 mod named; // named.rt: a plan file by its name
 mod says; // says.rt: what the program says of itself

@@ -1,5 +1,7 @@
 // The plan file written from the words of a table to a lent output, with every number in its shortest form. Refused: an output under 1,400 bytes (16),
 // then the first fault of the templates in the order of their file (25, 23). One table has exactly one file. A refusal alters no byte.
+#![tactic(auto)]
+
 mod template_file;
 
 ghost use Rattle.std.specs.Prelude.{◌≡◌, true, [], ◌∷◌, ◌++◌, ◌+◌, ◌<◌, ◌≤◌, length};

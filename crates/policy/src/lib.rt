@@ -1,6 +1,8 @@
 // Whether lists of addresses and routes let a packet pass: cover, allowance, and the rule for replies.
 // A side, the addresses and routes of one direction, is lent as words, so that no packet pays for a copy. `side_sound` judges its rules;
 // the other functions require them.
+#![tactic(auto)]
+
 mod cover; // cover.rt: address entries and the addresses they cover
 mod admit; // admit.rt: route ranges and the addresses and protocols they let through
 

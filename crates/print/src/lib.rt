@@ -1,5 +1,7 @@
 // What the programs write to standard output: text, numbers, bytes in hex, and answers. No contract can say what is written: the functions are
 // proved safe and ending, and what a program writes is compared with its file `stdout`.
+#![tactic(auto)]
+
 use answer::{Answer, Refusal};
 use libc::STDOUT_FILENO;
 

@@ -1,5 +1,7 @@
 // Runs the five setups of RFC 9484 section 8 and writes a line for each step, to be compared with the file `stdout`. Addresses, ranges, protocols and
 // Request IDs are those of the figures; the capsules were put together by hand from the layouts of section 4.7.
+#![tactic(auto)]
+
 mod connection_racing; // figure 22
 mod end; // end.rt: what an end does
 mod full_tunnel; // figure 15

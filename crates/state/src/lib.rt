@@ -1,5 +1,7 @@
 // The state of one tunnel, in one array of words that a host lends: what was received from the other end, what was given to it, the table
 // of templates, and what is kept of an unfinished capsule. The parts stand one after the other. The judge answers yes or no; loading a plan file refuses as reading it does (20 to 25).
+#![tactic(auto)]
+
 ghost use Rattle.std.specs.Prelude.{◌≡◌, ◌≤◌, length};
 ghost use Rattle.octets.specs.Parts.{with_part};
 ghost use Rattle.state.specs.State.{table_at, store_at, state_words, state_in, sound_state};

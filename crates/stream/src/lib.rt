@@ -3,6 +3,8 @@
 // Refused: too small an output (16), a state or a store that breaks its own rules (9), the refusal that is remembered, then as a capsule is read:
 // 2 as soon as type and length are there, 3 to 7 when the value is all there. 1 is given while a capsule is open, and takes all bytes. 2 to 7 are
 // remembered, which is all that they change; 9 and 16 change nothing.
+#![tactic(auto)]
+
 mod feeding;
 mod handing;
 mod store;

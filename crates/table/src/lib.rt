@@ -3,6 +3,8 @@
 // templates; the machine has their words, and nothing in between. `specs/Words.antt` says which word is what.
 // Reading a file refuses, left to right: a file that is cut or too long (22), a wrong mark (20) or version (21), a number that is not in its
 // shortest form (24), what breaks a rule (23, and 25 for Context IDs and the count of templates).
+#![tactic(auto)]
+
 mod judge; // judge.rt: the first fault of the templates of a table
 mod reading; // reading.rt: a plan file read into words
 mod rules; // rules.rt: the rules of a Context ID, a segment and a checksum

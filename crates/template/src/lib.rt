@@ -2,6 +2,8 @@
 // A template fits where every segment lies in the packet with equal bytes and, with a checksum, the packet's own is the right one. The bytes
 // outside the segments then stand for the packet, with the seed in the checksum's field. These are inner functions: they ask for a sound table,
 // a packet of good form and room, which the entry points above them establish.
+#![tactic(auto)]
+
 pub mod search; // search.rt: the template that fits, and the template of a Context ID
 pub mod checksum; // checksum.rt: whether a packet's checksum is the right one, and the seed in its place
 pub mod body; // body.rt: the bytes outside the segments, and the packet rebuilt

@@ -1,6 +1,8 @@
 // The box for C and Rust hosts: functions over numbers, byte slices and arrays of words. The host owns the state, one array of words, and lends it;
 // `include/whapirohi.h` has the declarations and what a caller owes. Each function promises what the function of the same name below promises,
 // with the answer's enum as the number that it gives back and its values beside it.
+#![tactic(auto)]
+
 mod capsules; // capsules.rt: capsules read and written against the lent state
 mod packets; // packets.rt: packets sent and received
 mod pieces; // pieces.rt: the stream in pieces

@@ -3,6 +3,8 @@
 // capsule live across records in memory that is lent.
 // Answers are gathered and written before each read, so that none waits for more input. It ends where the input does, or where the output
 // cannot be written.
+#![tactic(auto)]
+
 mod answers;
 mod incoming;
 mod outgoing;

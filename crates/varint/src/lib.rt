@@ -1,6 +1,8 @@
 // QUIC's variable-length numbers (RFC 9000, section 16): 1, 2, 4 or 8 bytes, chosen by the top two bits of the first, the rest big-endian.
 // Reading takes every form, also a longer one than needed; writing makes the shortest. A number that is not all there is refused with 1;
 // writing refuses an output of less than 8 bytes with 16, and then a value of 2^62 or more with 3.
+#![tactic(auto)]
+
 ghost use Rattle.std.specs.Prelude.{◌≡◌, ◌+◌, ◌≤◌, ◌<◌, ◌^◌, ◌/◌, length};
 ghost use Rattle.answer.specs.Verdict.{Writes};
 ghost use Rattle.output.specs.Places.{Put};

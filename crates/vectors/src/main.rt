@@ -1,5 +1,7 @@
 // Runs the numbers of RFC 9000, appendix A.1, and the drivers' examples through the box, and writes what came out, to be compared with the
 // file `stdout`.
+#![tactic(auto)]
+
 mod limits; // limits.rt: at the limits and one past them
 mod packet; // packet.rt: sending and receiving
 mod pieces; // pieces.rt: the stream in pieces

@@ -1,6 +1,8 @@
 // The capsules of a lent buffer, one after the other (document 01: "the reader keeps the lent bytes and its place together").
 // A walker is thin: it is taken apart, and `capsule::read` does the work over a slice and a place, and refuses. With no bytes left the answer
 // is 1, and a refusal leaves the place.
+#![tactic(auto)]
+
 ghost use Rattle.std.specs.Prelude.{◌≡◌, ◌-◌, length};
 ghost use Rattle.capsule.specs.Results.{read_at};
 ghost use Rattle.walker.specs.Walk.{walker_at, behind};
