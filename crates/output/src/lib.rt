@@ -18,7 +18,8 @@ pub fn put_bytes(out: &mut [u8], at: usize, value: &[u8]) -> usize
     requires { at + length value.now ≤ length out.old }
     ensures { Put value.now at out.old result out.new }
 {
-    let n = bytes::copy(value, &mut out[at..]);
+    let n = value.len();
+    out[at..at + n].copy_from_slice(value);
     at + n
 }
 
