@@ -11,73 +11,98 @@ use Rattle.chain.proofs.walk.Goals as goal
 use Rattle.chain.proofs.walk.Goals.{After-shared_slice_known-in-loop-step-1, In-loop-step, Start}
 
 -- the packet
-abbrev P : tie.Start invariant-loop decreases-loop invariant-loop2 decreases-loop2 → List ℕ
+abbrev P : Start → List ℕ
 P s = s.args.front.now ++ s.args.tail.now
+
 joined : (s : Start) → length (P s) ≡ length s.args.front.now + length s.args.tail.now
 joined s = length-append s.args.front.now s.args.tail.now
+
 pub loop-step-init : goal.loop-step-init
 unfolding class_table
 loop-step-init c =
-    ((refl, search rules), (c.quads_in-step.ensures, walk-starts (P c) _ (omega (arith, joined (goal.at.loop-step-init c).Start)) (class_read refl (omega arith) refl)))
+    ((refl, search rules), (c.quads_in-step.ensures, walk-starts (P (goal.at.loop-step-init c).Start) _ (omega (arith, joined (goal.at.loop-step-init c).Start)) (class_read refl (omega arith) refl)))
+
 -- the header lies in the front
 lies : (c : In-loop-step) → 40 + 4 * (c.loop-step.quads + c.loop-step.step) ≤ length c.args.front.now
 lies c = c.loop-step.invariant.1.0.within (omega arith)
+
 -- its number is a byte
 number-byte : (c : After-shared_slice_known-in-loop-step-1) → get_or c.args.front.now (40 + 4 * c.loop-step.quads) 0 < 256
 number-byte c = omega (arith, c.type_inv.front (40 + 4 * c.loop-step.quads))
+
 pub overflow_mul-number : goal.overflow_mul-number
-overflow_mul-number c = omega (arith, lies (goal.at.overflow_mul-number c).In-loop-step)
+overflow_mul-number c = omega (arith, lies c)
+
 pub overflow_add-number : goal.overflow_add-number
-overflow_add-number c = omega (arith, lies (goal.at.overflow_add-number c).In-loop-step)
+overflow_add-number c = omega (arith, lies c)
+
 pub bounds-front-quads : goal.bounds-front-quads
 bounds-front-quads c = omega (arith, lies (goal.at.bounds-front-quads c).In-loop-step)
+
 pub overflow_add-quads : goal.overflow_add-quads
 overflow_add-quads c = omega (arith, lies (goal.at.overflow_add-quads c).In-loop-step)
+
 pub overflow_cast-class-in-loop-step : goal.overflow_cast-class-in-loop-step
-overflow_cast-class-in-loop-step c = record { fits = omega (arith, number-byte (goal.at.overflow_cast-class-in-loop-step c).After-shared_slice_known-in-loop-step-1) }
+overflow_cast-class-in-loop-step c = record { fits = omega (arith, c.type_inv.front (40 + 4 * c.loop-step.quads)) }
+
 pub bounds-classes-number : goal.bounds-classes-number
-bounds-classes-number c = omega (arith, number-byte (goal.at.bounds-classes-number c).After-shared_slice_known-in-loop-step-1)
+bounds-classes-number c = omega (arith, c.type_inv.front (40 + 4 * c.loop-step.quads))
+
 pub quads_in-step-requires-in-loop-step : goal.quads_in-step-requires-in-loop-step
 quads_in-step-requires-in-loop-step c = lies (goal.at.quads_in-step-requires-in-loop-step c).In-loop-step
+
 pub loop-step-smaller : goal.loop-step-smaller
 loop-step-smaller c = omega (arith, lies (goal.at.loop-step-smaller c).In-loop-step)
+
 pub loop-step-preserved : goal.loop-step-preserved
 loop-step-preserved c =
-    let i = k.loop-step.invariant.1.0 in
+    let i = c.loop-step.invariant.1.0 in
     let h = i.size (omega arith) in
-    let n = ap (λ (j : ℕ). k.loop-step.class * get_or k.args.front.now j 0) (let e : 41 + 4 * k.loop-step.quads ≡ 40 + 4 * k.loop-step.quads + 1 = omega arith in e) in (
-      (k.loop-step.invariant.0.0, lies (goal.at.loop-step-preserved c).In-loop-step),
+    let n = ap (λ (j : ℕ). c.loop-step.class * get_or c.args.front.now j 0) (let e : 41 + 4 * c.loop-step.quads ≡ 40 + 4 * c.loop-step.quads + 1 = omega arith in e) in (
+      (c.loop-step.invariant.0.0, lies (goal.at.loop-step-preserved c).In-loop-step),
       (
         c.quads_in-step-in-loop-step.ensures,
-        walk-counted k.args.front.now k.args.tail.now _ k.loop-step.invariant.1.1 (i.kind (omega arith)) (omega (arith, lies (goal.at.loop-step-preserved c).In-loop-step, n, h)) (class_read k.loop-step.invariant.0.0 (omega (arith, number-byte (goal.at.loop-step-preserved c).After-shared_slice_known-in-loop-step-1)) refl) (omega (arith, n, h)),
+        walk-counted c.args.front.now c.args.tail.now _ c.loop-step.invariant.1.1 (i.kind (omega arith)) (omega (arith, lies (goal.at.loop-step-preserved c).In-loop-step, n, h)) (class_read c.loop-step.invariant.0.0 (omega (arith, number-byte (goal.at.loop-step-preserved c).After-shared_slice_known-in-loop-step-1)) refl) (omega (arith, n, h)),
       ),
     )
+
 pub overflow_mul-at : goal.overflow_mul-at
 overflow_mul-at c = omega (arith, c.loop-step.invariant.0.1)
+
 pub overflow_add-at : goal.overflow_add-at
 overflow_add-at c = omega (arith, c.loop-step.invariant.0.1)
+
 pub loop-class-init : goal.loop-class-init
 loop-class-init c = (c.loop-step.invariant.0.0, c.loop-step.invariant.1.1)
+
 pub size_at-size-requires : goal.size_at-size-requires
 size_at-size-requires c = omega (arith, c.loop-class.invariant.1.within, joined (goal.at.size_at-size-requires c).Start)
+
 pub overflow_sub-end : goal.overflow_sub-end
 overflow_sub-end c = omega (arith, c.loop-class.invariant.1.within, joined (goal.at.overflow_sub-end c).Start)
+
 pub returns-then-end-at : goal.returns-then-end-at
 returns-then-end-at c =
-    walk-past (P c) _ c.loop-class.invariant.1 (λ e. omega arith) (omega (arith, c.size_at-size.ensures, joined (goal.at.returns-then-end-at c).Start))
+    walk-past (P (goal.at.returns-then-end-at c).Start) _ c.loop-class.invariant.1 (λ e. omega arith) (omega (arith, c.size_at-size.ensures, joined (goal.at.returns-then-end-at c).Start))
+
 pub later_at-requires : goal.later_at-requires
 later_at-requires c = omega (arith, c.loop-class.invariant.1.within, joined (goal.at.later_at-requires c).Start)
+
 pub returns-then-later_at : goal.returns-then-later_at
 returns-then-later_at c =
-    walk-later (P c) _ c.loop-class.invariant.1 (λ e. omega arith) (omega (arith, c.size_at-size.ensures, joined (goal.at.returns-then-later_at c).Start)) (sym c.later_at.ensures ∙ c.if-later_at.true)
+    walk-later (P (goal.at.returns-then-later_at c).Start) _ c.loop-class.invariant.1 (λ e. omega arith) (omega (arith, c.size_at-size.ensures, joined (goal.at.returns-then-later_at c).Start)) (sym c.later_at.ensures ∙ c.if-later_at.true)
+
 pub overflow_add-at-in-loop-class : goal.overflow_add-at-in-loop-class
 overflow_add-at-in-loop-class c = omega (arith, c.loop-class.invariant.1.within, joined (goal.at.overflow_add-at-in-loop-class c).Start)
+
 pub loop-class-smaller : goal.loop-class-smaller
 loop-class-smaller c =
-    omega (arith, c.size_at-size.ensures, size-least c.loop-class.class (drop c.loop-class.at (P c)), joined (goal.at.loop-class-smaller c).Start)
+    omega (arith, c.size_at-size.ensures, size-least c.loop-class.class (drop c.loop-class.at (P (goal.at.loop-class-smaller c).Start)), joined (goal.at.loop-class-smaller c).Start)
+
 pub loop-class-preserved : goal.loop-class-preserved
 loop-class-preserved c =
     let z = c.size_at-size.ensures in
-    (c.loop-class.invariant.0, walk-next (P c) _ c.loop-class.invariant.1 (λ e. omega arith) (omega (arith, z, joined (goal.at.loop-class-preserved c).Start)) (sym c.later_at.ensures ∙ c.if-later_at.false) c.byte_of-number.ensures z (class_read c.loop-class.invariant.0 (omega arith) refl))
+    (c.loop-class.invariant.0, walk-next (P (goal.at.loop-class-preserved c).Start) _ c.loop-class.invariant.1 (λ e. omega arith) (omega (arith, z, joined (goal.at.loop-class-preserved c).Start)) (sym c.later_at.ensures ∙ c.if-later_at.false) c.byte_of-number.ensures z (class_read c.loop-class.invariant.0 (omega arith) refl))
+
 pub returns : goal.returns
-returns c = walk-plain (P c) _ c.loop-class.invariant.1 (omega arith)
+returns c = walk-plain (P (goal.at.returns c).Start) _ c.loop-class.invariant.1 (omega arith)
