@@ -1,6 +1,6 @@
 -- A turn of a loop that reads the Request IDs of a value: one ID more before those that are left to read. Assumes nothing.
 use Prim.Native.Nat.{ℕ, suc, ◌+◌, ◌-◌, ◌^◌, ◌≤◌, ◌<◌}
-use mathlib.Core.Bool.{true, false, or_true}
+use mathlib.Core.Bool.{true, false, or-true}
 use mathlib.Core.Path.{◌≡◌, refl, sym, ap, ◌∙◌}
 use mathlib.Core.List.{List, [], ◌∷◌, ◌++◌, append_assoc, append-nil}
 use native.Mathlib.Nat.{not-suc-le-zero, sub-zero}
@@ -113,7 +113,7 @@ module _ {s ids : List ℕ} {at : ℕ} (i : Reading s ids at) where
 
 any_zero : (xs ys : List ℕ) (x : ℕ) → x ≡ 0 → any_of (λ d. eqb d 0) ((xs ++ (x ∷ [])) ++ ys) ≡ true
 any_zero [] ys x h = rw (eq-eqb x 0 h)
-any_zero (y ∷ xs) ys x h = rw (any_zero xs ys x h, or_true)
+any_zero (y ∷ xs) ys x h = rw (any_zero xs ys x h, or-true)
 
 pub record Collecting (s array : List ℕ) (size n at : ℕ) : Type 0 where
   pub reading : Reading s (take n array) at

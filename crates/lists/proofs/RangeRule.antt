@@ -1,6 +1,6 @@
 -- The rules of a range and of neighbours as facts, and by their cases in the code's order. Assumes nothing.
 use Prim.Native.Nat.{ℕ, ◌^◌, ◌≤◌, ◌<◌}
-use mathlib.Core.Bool.{Bool, true, false, ◌&&◌, ◌||◌, and-true, or_false}
+use mathlib.Core.Bool.{Bool, true, false, ◌&&◌, ◌||◌, and-true, or-false}
 use mathlib.Core.Path.{◌≡◌, refl}
 use mathlib.Core.List.{List, [], ◌∷◌, ◌++◌}
 use mathlib.Core.Logic.{◌⊎◌, inl, inr, ⊎_elim}
@@ -101,13 +101,13 @@ module _ (a b : RouteRange) where
   -- the code's tests
   pub by-version : (a.version ≡ b.version → ⊥) → ltb a.version b.version ≡ in_order a b
   unfolding in_order
-  by-version f = simp (ne_eqb a.version b.version f, or_false)
+  by-version f = simp (ne_eqb a.version b.version f, or-false)
 
   module _ (v : a.version ≡ b.version) where
     pub by-protocol : (a.protocol ≡ b.protocol → ⊥) → ltb a.protocol b.protocol ≡ in_order a b
     unfolding in_order
     by-protocol f =
-        simp (eq_ltb a.version b.version v, eq-eqb a.version b.version v, ne_eqb a.protocol b.protocol f, or_false)
+        simp (eq_ltb a.version b.version v, eq-eqb a.version b.version v, ne_eqb a.protocol b.protocol f, or-false)
 
     pub by_address : a.protocol ≡ b.protocol → ltb (end_of a) (start_of b) ≡ in_order a b
     unfolding in_order

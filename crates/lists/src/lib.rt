@@ -28,12 +28,12 @@ const IPV4_END: u64 = 4294967296;
 
 // A Request ID (RFC 9484, section 4.7): no Context ID can stand in its place.
 #[repr(C)]
-#[derive(Drop)]
+#[derive(Clone, Copy)]
 pub struct RequestId(pub u64);
 
 // An address with its prefix length. IPv4 stands in `lo` with `hi` 0.
 #[repr(C)]
-#[derive(Drop)]
+#[derive(Clone, Copy)]
 pub struct AddressEntry {
     pub request_id: RequestId,
     pub version: u8,
@@ -44,7 +44,7 @@ pub struct AddressEntry {
 
 // The addresses from start to end, both included, for one protocol; 0 stands for all.
 #[repr(C)]
-#[derive(Drop)]
+#[derive(Clone, Copy)]
 pub struct RouteRange {
     pub version: u8,
     pub protocol: u8,

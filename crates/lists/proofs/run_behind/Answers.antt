@@ -1,0 +1,15 @@
+-- The version of a sound range is 4 or 6. Assumes nothing.
+use mathlib.Core.Path.{◌∙◌}
+use Rattle.lists.specs.Words.{range_at}
+use Rattle.lists.proofs.RunLaws as Law
+use Rattle.lists.proofs.run_behind.Goals as goal
+
+pub run4-requires : goal.run4-requires
+run4-requires c =
+    record { route_words_in_bounds = c.requires.route_words_in_bounds; j_lt_n = c.requires.j_lt_n; j_value = (c.requires.j_value.0, c.requires.j_value.1 ∙ c.if-version-eq4.true) }
+
+pub run6-requires : goal.run6-requires
+run6-requires c =
+    let a = c.args in
+    let p = c.requires.j_value in
+    record { route_words_in_bounds = c.requires.route_words_in_bounds; j_lt_n = c.requires.j_lt_n; j_value = (p.0, Law.not_four (range_at a.w.now a.j) a.version p.0 p.1 c.if-version-eq4.false) }
