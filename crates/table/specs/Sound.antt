@@ -1,5 +1,5 @@
 -- What sound templates are, as facts.
-use Rattle.std.specs.Prelude.{ℕ, ◌+◌, ◌-◌, ◌%◌, ◌≤◌, ◌<◌, ◌≡◌, List, [], ◌∷◌, ◌⊎◌, length}
+use Rattle.std.specs.Prelude.{ℕ, ◌+◌, ◌-◌, ◌%◌, ◌≤◌, ◌<◌, ◌≡◌, List, [], ◌∷◌, ◌⊎◌}
 use Rattle.varint.specs.Numbers.{limit}
 use Rattle.table.specs.Limits.{max_templates, max_segments, static_limit}
 use Rattle.table.specs.Templates.{Piece, piece_end, Sum, no_sum, sum_at, Template}

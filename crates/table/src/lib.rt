@@ -40,18 +40,18 @@ pub const TABLE_WORDS: usize = 1 + MAX_TEMPLATES * TEMPLATE_WORDS;
 
 // A Context ID (RFC 9298, section 4): no Request ID can stand in its place.
 #[repr(C)]
-#[derive(Drop)]
+#[derive(Clone, Copy)]
 pub struct ContextId(pub u64);
 
 #[repr(C)]
-#[derive(Drop)]
+#[derive(Clone, Copy)]
 pub struct Segment {
     pub offset: usize,
     pub length: usize,
 }
 
 // What a template says beside its segments and static bytes.
-#[derive(Drop)]
+#[derive(Clone, Copy)]
 pub struct Head {
     pub id: ContextId,
     pub count: usize,

@@ -222,10 +222,9 @@ fn read_body(bytes: &[u8], at: usize, id: u64, t: &mut [u64]) -> StoredAt
     match fault {
         Verdict::Go => {
             let sum = read_checksum(bytes, parts.next, t, n);
-            let verdict = sum.verdict;
-            put_head(t, id, n, sum);
+            put_head(t, id, n, &sum);
             StoredAt {
-                verdict,
+                verdict: sum.verdict,
                 next: sum.next,
             }
         }
@@ -243,9 +242,9 @@ fn not_stored(why: Refusal) -> StoredAt
 }
 
 // The head of a template of this ID, of n segments and with this checksum.
-fn put_head(t: &mut [u64], id: u64, n: usize, sum: ChecksumAt)
+fn put_head(t: &mut [u64], id: u64, n: usize, sum: &ChecksumAt)
     requires { template_words ≤ length t.old }
-    ensures { t.new ≡ headed id n sum t.old }
+    ensures { t.new ≡ headed id n sum.now t.old }
 {
     t[0] = id;
     t[1] = n as u64;
