@@ -93,7 +93,7 @@ pub fn ranges_into(value: &[u8], words: &mut [u64; ROUTE_WORDS]) -> Verdict
 // The entries of a request, or else of an assignment.
 fn read_entries(value: &[u8], request: bool, words: &mut [u64; ADDRESS_WORDS]) -> Verdict
     requires value_len_bound { length value.now ≤ max_value }
-    requires words_value { words.old ≡ replicate address_words 0 }
+    requires words_blank { words.old ≡ replicate address_words 0 }
     ensures { ReadsEntries (elements_in (entry_format request) request max_addresses value.now) result words.new }
 {
     let mut count: usize = 0;
@@ -134,7 +134,7 @@ fn read_entries(value: &[u8], request: bool, words: &mut [u64; ADDRESS_WORDS]) -
 // Whether this is a request, and of the IDs before its end or its first bad entry, `count` of them, one is zero or two are equal.
 fn ids_refused(value: &[u8], request: bool, count: usize) -> bool
     requires value_len_bound { length value.now ≤ max_value }
-    requires value_len { length (ids_in value.now) ≡ count }
+    requires ids_counted { length (ids_in value.now) ≡ count }
     ensures { result ≡ (request && ids_refused (ids_in value.now)) }
 {
     if !request {
@@ -154,7 +154,7 @@ fn ids_refused(value: &[u8], request: bool, count: usize) -> bool
 // they are read, so that none is stored.
 fn ids_ascend(value: &[u8], count: usize) -> bool
     requires value_len_bound { length value.now ≤ max_value }
-    requires value_len { length (ids_in value.now) ≡ count }
+    requires ids_counted { length (ids_in value.now) ≡ count }
     ensures { result ≡ true → ids_refused (ids_in value.now) ≡ false }
 {
     let mut last: u64 = 0;
@@ -175,7 +175,7 @@ fn ids_ascend(value: &[u8], count: usize) -> bool
 // The IDs of no more entries than a list may have: for those of most requests no large array is cleared.
 fn few_refused(value: &[u8], count: usize) -> bool
     requires value_len_bound { length value.now ≤ max_value }
-    requires value_len { length (ids_in value.now) ≡ count }
+    requires ids_counted { length (ids_in value.now) ≡ count }
     requires count_le_max_addresses { count ≤ max_addresses }
     ensures { result ≡ ids_refused (ids_in value.now) }
 {
@@ -187,7 +187,7 @@ fn few_refused(value: &[u8], count: usize) -> bool
 // The IDs of as many entries as a value can hold.
 fn many_refused(value: &[u8], count: usize) -> bool
     requires value_len_bound { length value.now ≤ max_value }
-    requires value_len { length (ids_in value.now) ≡ count }
+    requires ids_counted { length (ids_in value.now) ≡ count }
     requires count_le_max_entries { count ≤ max_entries }
     ensures { result ≡ ids_refused (ids_in value.now) }
 {
@@ -199,7 +199,7 @@ fn many_refused(value: &[u8], count: usize) -> bool
 // The IDs of so many good entries are collected, up to one that is zero, and then compared all at once.
 fn judge_ids(value: &[u8], count: usize, ids: &mut [u64], spare: &mut [u64]) -> bool
     requires value_len_bound { length value.now ≤ max_value }
-    requires value_len { length (ids_in value.now) ≡ count }
+    requires ids_counted { length (ids_in value.now) ≡ count }
     requires count_in_bounds { count ≤ length ids.old }
     requires spare_len { length spare.old ≡ length ids.old }
     ensures { result ≡ ids_refused (ids_in value.now) }
@@ -231,7 +231,7 @@ fn no_entries(why: Refusal) -> EntriesRead
 // The ranges of an advertisement.
 fn read_ranges(value: &[u8], words: &mut [u64; ROUTE_WORDS]) -> Verdict
     requires value_len_bound { length value.now ≤ max_value }
-    requires words_value { words.old ≡ replicate route_words 0 }
+    requires words_blank { words.old ≡ replicate route_words 0 }
     ensures { ReadsRanges (elements_in range_format false max_ranges value.now) result words.new }
 {
     let mut last = lists::before_all();

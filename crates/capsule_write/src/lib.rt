@@ -87,7 +87,7 @@ pub fn write_routes(list: &[u64; ROUTE_WORDS], out: &mut [u8]) -> Answer
 // The two kinds of capsule with address entries.
 fn write_addresses(kind: u64, request: bool, w: &[u64], out: &mut [u8]) -> Answer
     requires address_words_in_bounds { address_words ≤ length w.now }
-    requires kind_bound { kind ≤ 3 }
+    requires kind_list_room { kind ≤ 3 }
     ensures { EntriesWritten kind request w.now out.old result out.new }
 {
     if out.len() < CAPSULE_ROOM {
@@ -112,7 +112,7 @@ fn put_header(out: &mut [u8], kind: u64, size: usize) -> usize
 // A capsule of a sound list of entries.
 fn put_addresses(out: &mut [u8], kind: u64, w: &[u64]) -> usize
     requires address_words_in_bounds { address_words ≤ length w.now }
-    requires kind_bound { (kind ≤ 3) × (sound_addresses (entries_of w.now) ≡ true) × (capsule_room ≤ length out.old) }
+    requires kind_list_room { (kind ≤ 3) × (sound_addresses (entries_of w.now) ≡ true) × (capsule_room ≤ length out.old) }
     ensures { Put (frame_bytes kind (written (entry_format false) (entries_of w.now))) 0 out.old result out.new }
 {
     let n = w[0] as usize;
@@ -124,7 +124,7 @@ fn put_addresses(out: &mut [u8], kind: u64, w: &[u64]) -> usize
 // A capsule of a list of ranges within its limit.
 fn put_routes(out: &mut [u8], w: &[u64]) -> usize
     requires route_words_in_bounds { route_words ≤ length w.now }
-    requires w_bound { (count_of w.now ≤ max_ranges) × (capsule_room ≤ length out.old) }
+    requires count_and_room { (count_of w.now ≤ max_ranges) × (capsule_room ≤ length out.old) }
     ensures { Put (frame_bytes 3 (written range_format (ranges_of w.now))) 0 out.old result out.new }
 {
     let n = w[0] as usize;

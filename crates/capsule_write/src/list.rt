@@ -30,8 +30,8 @@ pub(crate) fn entries_size(w: &[u64], n: usize) -> usize
 pub(crate) fn put_entries(out: &mut [u8], at: usize, w: &[u64], n: usize) -> usize
     requires address_words_in_bounds { address_words ≤ length w.now }
     requires n_le_max_addresses { n ≤ max_addresses }
-    requires n_value { all_of sound_entry (from (entry_at w.now) 0 n) ≡ true }
-    requires n_in_bounds { at + max_entry * n ≤ length out.old }
+    requires entries_sound { all_of sound_entry (from (entry_at w.now) 0 n) ≡ true }
+    requires room { at + max_entry * n ≤ length out.old }
     ensures { Put (written (entry_format false) (from (entry_at w.now) 0 n)) at out.old result out.new }
 {
     let mut next = at;
@@ -64,7 +64,7 @@ pub(crate) fn ranges_size(w: &[u64], n: usize) -> usize
 pub(crate) fn put_ranges(out: &mut [u8], at: usize, w: &[u64], n: usize) -> usize
     requires route_words_in_bounds { route_words ≤ length w.now }
     requires n_le_max_ranges { n ≤ max_ranges }
-    requires n_in_bounds { at + max_range * n ≤ length out.old }
+    requires room { at + max_range * n ≤ length out.old }
     ensures { Put (written range_format (from (range_at w.now) 0 n)) at out.old result out.new }
 {
     let mut next = at;

@@ -266,7 +266,7 @@ pub struct Joined {
 // The entries from i on that have its tag.
 fn join(w: &[u64], i: usize, n: usize) -> Joined
     requires address_words_in_bounds { address_words ≤ length w.now }
-    requires i_lt_n { (i < n) × (n ≤ max_addresses) }
+    requires i_in_list { (i < n) × (n ≤ max_addresses) }
     ensures { Joins w.now i n result }
 {
     let b = i * WORDS_PER_ENTRY;
@@ -346,8 +346,8 @@ fn ended(last: usize, high: u64, end: u64) -> Run
 // The run of IPv4 ranges behind range j, which is sound. The high words are judged at the end of the run, and so is the greatest end.
 fn run4(w: &[u64], j: usize, n: usize) -> Run
     requires route_words_in_bounds { route_words ≤ length w.now }
-    requires j_lt_n { (j < n) × (n ≤ max_ranges) }
-    requires j_value { (sound_range (range_at w.now j) ≡ true) × ((range_at w.now j).version ≡ 4) }
+    requires j_in_list { (j < n) × (n ≤ max_ranges) }
+    requires range_j_sound { (sound_range (range_at w.now j) ≡ true) × ((range_at w.now j).version ≡ 4) }
     ensures { Ran w.now n j result.last result.sound }
 {
     let b = j * WORDS_PER_RANGE;
@@ -386,8 +386,8 @@ fn run4(w: &[u64], j: usize, n: usize) -> Run
 // The run of IPv6 ranges behind range j.
 fn run6(w: &[u64], j: usize, n: usize) -> Run
     requires route_words_in_bounds { route_words ≤ length w.now }
-    requires j_lt_n { (j < n) × (n ≤ max_ranges) }
-    requires j_value { (sound_range (range_at w.now j) ≡ true) × ((range_at w.now j).version ≡ 6) }
+    requires j_in_list { (j < n) × (n ≤ max_ranges) }
+    requires range_j_sound { (sound_range (range_at w.now j) ≡ true) × ((range_at w.now j).version ≡ 6) }
     ensures { Ran w.now n j result.last result.sound }
 {
     let b = j * WORDS_PER_RANGE;
@@ -432,8 +432,8 @@ fn run6(w: &[u64], j: usize, n: usize) -> Run
 // The run behind range j, of its version.
 fn run_behind(w: &[u64], j: usize, n: usize, version: u8) -> Run
     requires route_words_in_bounds { route_words ≤ length w.now }
-    requires j_lt_n { (j < n) × (n ≤ max_ranges) }
-    requires j_value { (sound_range (range_at w.now j) ≡ true) × ((range_at w.now j).version ≡ version) }
+    requires j_in_list { (j < n) × (n ≤ max_ranges) }
+    requires range_j_sound { (sound_range (range_at w.now j) ≡ true) × ((range_at w.now j).version ≡ version) }
     ensures { Ran w.now n j result.last result.sound }
 {
     if version == 4 {

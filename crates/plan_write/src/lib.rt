@@ -35,7 +35,7 @@ pub fn write_plan(table: &[u64; TABLE_WORDS], out: &mut [u8]) -> Answer
 // The file of a sound table.
 fn put_plan(out: &mut [u8], w: &[u64]) -> usize
     requires table_words_in_bounds { table_words ≤ length w.now }
-    requires w_value { (sound_templates (templates_of w.now) ≡ true) × (plan_room ≤ length out.old) }
+    requires sound_and_room { (sound_templates (templates_of w.now) ≡ true) × (plan_room ≤ length out.old) }
     ensures { Put (plan_bytes (templates_of w.now)) 0 out.old result out.new }
 {
     let count = put_head(out);
@@ -65,7 +65,7 @@ fn put_count(out: &mut [u8], at: usize, n: usize) -> usize
 fn put_templates(out: &mut [u8], at: usize, w: &[u64]) -> usize
     requires table_words_in_bounds { table_words ≤ length w.now }
     requires usable { Usable w.now }
-    requires w_in_bounds { at + length (templates_bytes (templates_of w.now)) ≤ length out.old }
+    requires room { at + length (templates_bytes (templates_of w.now)) ≤ length out.old }
     ensures { Put (templates_bytes (templates_of w.now)) at out.old result out.new }
 {
     let n = w[0] as usize;

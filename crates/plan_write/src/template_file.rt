@@ -11,7 +11,7 @@ use table::Segment;
 pub(crate) fn put_template(out: &mut [u8], at: usize, t: &[u64]) -> usize
     requires template_words_in_bounds { template_words ≤ length t.now }
     requires usable_template { UsableTemplate t.now }
-    requires t_in_bounds { at + length (template_bytes (template_of t.now)) ≤ length out.old }
+    requires room { at + length (template_bytes (template_of t.now)) ≤ length out.old }
     ensures { Put (template_bytes (template_of t.now)) at out.old result out.new }
 {
     let head = table::head_of(t);
@@ -25,7 +25,7 @@ pub(crate) fn put_template(out: &mut [u8], at: usize, t: &[u64]) -> usize
 fn put_segments(out: &mut [u8], at: usize, t: &[u64]) -> usize
     requires template_words_in_bounds { template_words ≤ length t.now }
     requires usable_template { UsableTemplate t.now }
-    requires t_in_bounds { at + length (pieces_bytes (template_of t.now).pieces) ≤ length out.old }
+    requires room { at + length (pieces_bytes (template_of t.now).pieces) ≤ length out.old }
     ensures { Put (pieces_bytes (template_of t.now).pieces) at out.old result out.new }
 {
     let head = table::head_of(t);
@@ -43,8 +43,8 @@ fn put_segments(out: &mut [u8], at: usize, t: &[u64]) -> usize
 // Offset, length, static bytes.
 fn put_segment(out: &mut [u8], at: usize, t: &[u64], segment: Segment) -> usize
     requires template_words_in_bounds { template_words ≤ length t.now }
-    requires length_bound { segment.offset + segment.length ≤ static_limit }
-    requires segment_in_bounds { at + length (piece_bytes (piece_of t.now segment)) ≤ length out.old }
+    requires segment_in_static { segment.offset + segment.length ≤ static_limit }
+    requires room { at + length (piece_bytes (piece_of t.now segment)) ≤ length out.old }
     ensures { Put (piece_bytes (piece_of t.now segment)) at out.old result out.new }
 {
     let offset = segment.offset;
@@ -57,7 +57,7 @@ fn put_segment(out: &mut [u8], at: usize, t: &[u64], segment: Segment) -> usize
 // The static bytes of `size` positions from an offset on.
 fn put_static(out: &mut [u8], at: usize, t: &[u64], offset: usize, size: usize) -> usize
     requires template_words_in_bounds { template_words ≤ length t.now }
-    requires size_bound { (offset + size ≤ static_limit) × (at + size ≤ length out.old) }
+    requires static_and_room { (offset + size ≤ static_limit) × (at + size ≤ length out.old) }
     ensures { Put (window t.now offset size) at out.old result out.new }
 {
     let mut next = at;
@@ -74,7 +74,7 @@ fn put_static(out: &mut [u8], at: usize, t: &[u64], offset: usize, size: usize) 
 fn put_checksum(out: &mut [u8], at: usize, t: &[u64]) -> usize
     requires template_words_in_bounds { template_words ≤ length t.now }
     requires usable_template { UsableTemplate t.now }
-    requires t_in_bounds { at + length (sum_bytes (template_of t.now).sum) ≤ length out.old }
+    requires room { at + length (sum_bytes (template_of t.now).sum) ≤ length out.old }
     ensures { Put (sum_bytes (template_of t.now).sum) at out.old result out.new }
 {
     let head = table::head_of(t);

@@ -10,7 +10,7 @@ use lists::{RouteRange, WORDS_PER_RANGE};
 // Whether some range holds an address and allows a protocol.
 pub(crate) fn any_admits(w: &[u64], a: Address, protocol: u8, icmp: bool) -> bool
     requires route_words_in_bounds { route_words ≤ length w.now }
-    requires w_value { sound_routes (ranges_of w.now) ≡ true }
+    requires routes_sound { sound_routes (ranges_of w.now) ≡ true }
     ensures { result ≡ any_of (admits a protocol icmp) (ranges_of w.now) }
 {
     if a.version == 4 {
@@ -22,7 +22,7 @@ pub(crate) fn any_admits(w: &[u64], a: Address, protocol: u8, icmp: bool) -> boo
 // The same of any other address. The high word of a range's end decides for most ranges, and only where it is that of the address the low one.
 fn any_admits6(w: &[u64], a: Address, protocol: u8, icmp: bool) -> bool
     requires route_words_in_bounds { route_words ≤ length w.now }
-    requires w_value { sound_routes (ranges_of w.now) ≡ true }
+    requires routes_sound { sound_routes (ranges_of w.now) ≡ true }
     ensures { result ≡ any_of (admits a protocol icmp) (ranges_of w.now) }
 {
     let n = w[0] as usize;
@@ -55,8 +55,8 @@ fn any_admits6(w: &[u64], a: Address, protocol: u8, icmp: bool) -> bool
 // The same of an IPv4 address: sound ranges of its version have no high words, so the low ones tell most that do not hold it.
 fn any_admits4(w: &[u64], a: Address, protocol: u8, icmp: bool) -> bool
     requires route_words_in_bounds { route_words ≤ length w.now }
-    requires w_value { sound_routes (ranges_of w.now) ≡ true }
-    requires version_value { a.version ≡ 4 }
+    requires routes_sound { sound_routes (ranges_of w.now) ≡ true }
+    requires version_4 { a.version ≡ 4 }
     ensures { result ≡ any_of (admits a protocol icmp) (ranges_of w.now) }
 {
     let n = w[0] as usize;

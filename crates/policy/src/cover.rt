@@ -12,7 +12,7 @@ use lists::AddressEntry;
 // Whether some entry covers an address.
 pub(crate) fn any_covers(w: &[u64], a: Address) -> bool
     requires address_words_in_bounds { address_words ≤ length w.now }
-    requires w_bound { count_of w.now ≤ max_addresses }
+    requires count_bound { count_of w.now ≤ max_addresses }
     ensures { result ≡ any_of (covers a) (entries_of w.now) }
 {
     let n = w[0] as usize;

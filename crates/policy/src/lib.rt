@@ -69,7 +69,7 @@ pub fn short_sound(side: &[u64]) -> bool
 // Whether a side grants a flow or, as a reply, the other one does.
 pub fn passes<'a>(side: &'a [u64], reply: &'a [u64], f: Flow) -> bool
     requires side_words_in_bounds { (side_words ≤ length side.now) × (side_words ≤ length reply.now) }
-    requires side_value { (sound_side (side_in side.now) ≡ true) × (sound_side (side_in reply.now) ≡ true) }
+    requires sides_sound { (sound_side (side_in side.now) ≡ true) × (sound_side (side_in reply.now) ≡ true) }
     ensures { result ≡ passes (side_in side.now) (side_in reply.now) f }
 {
     let s = f.source;
@@ -98,7 +98,7 @@ fn granted(
     icmp: bool,
 ) -> bool
     requires side_words_in_bounds { side_words ≤ length side.now }
-    requires side_value { sound_side (side_in side.now) ≡ true }
+    requires sides_sound { sound_side (side_in side.now) ≡ true }
     ensures { result ≡ granted_by (side_in side.now) (address near near_hi near_lo) (address far far_hi far_lo) protocol icmp }
 {
     let source = Address {

@@ -58,7 +58,7 @@ pub fn table_fault(w: &[u64]) -> Verdict
 // The first fault of a template of this head, behind one of the ID `previous`, or 0.
 fn template_fault(t: &[u64], previous: u64, head: Head) -> Verdict
     requires template_words_in_bounds { template_words ≤ length t.now }
-    requires head_value { head ≡ head_of t.now }
+    requires head_is_of_t { head ≡ head_of t.now }
     ensures { result ≡ template_fault previous (template_of t.now) }
 {
     let id = head.id;

@@ -137,7 +137,7 @@ fn has_mark(bytes: &[u8]) -> bool
 // The n templates behind the count, and the end of the file.
 fn read_templates(bytes: &[u8], n: usize, table: &mut [u64]) -> Verdict
     requires table_len { length table.old ≡ table_words }
-    requires table_value { table.old ≡ replicate table_words 0 }
+    requires table_blank { table.old ≡ replicate table_words 0 }
     requires in_bounds { (6 ≤ length bytes.now) × (n ≤ max_templates) }
     ensures { TemplatesFound (and_then (templates_in n 0 (drop 6 bytes.now)) ending) result table.new }
 {
@@ -170,7 +170,7 @@ fn read_templates(bytes: &[u8], n: usize, table: &mut [u64]) -> Verdict
 // The template at a place, behind one of the ID `previous`, or 0.
 fn read_template(bytes: &[u8], at: usize, previous: u64, t: &mut [u64]) -> TemplateAt
     requires t_len { length t.old ≡ template_words }
-    requires t_value { t.old ≡ replicate template_words 0 }
+    requires t_blank { t.old ≡ replicate template_words 0 }
     requires at_in_bounds { at ≤ length bytes.now }
     ensures { TemplateFound bytes.now (template_in previous (drop at bytes.now)) result t.new }
 {
@@ -206,7 +206,7 @@ fn no_template(why: Refusal) -> TemplateAt
 // What follows an ID: the count of segments, the segments, the checksum.
 fn read_body(bytes: &[u8], at: usize, id: u64, t: &mut [u64]) -> StoredAt
     requires t_len { length t.old ≡ template_words }
-    requires t_value { t.old ≡ replicate template_words 0 }
+    requires t_blank { t.old ≡ replicate template_words 0 }
     requires at_in_bounds { at ≤ length bytes.now }
     ensures { BodyFound bytes.now (body_in id (drop at bytes.now)) result t.new }
 {
@@ -256,7 +256,7 @@ fn put_head(t: &mut [u64], id: u64, n: usize, sum: &ChecksumAt)
 // The n segments at a place, with their bytes.
 fn read_segments(bytes: &[u8], at: usize, n: usize, t: &mut [u64]) -> StoredAt
     requires t_len { length t.old ≡ template_words }
-    requires t_value { t.old ≡ replicate template_words 0 }
+    requires t_blank { t.old ≡ replicate template_words 0 }
     requires at_in_bounds { (at ≤ length bytes.now) × (n ≤ max_segments) }
     ensures { PiecesFound bytes.now (pieces_in n 0 (drop at bytes.now)) result t.new }
 {
@@ -289,8 +289,8 @@ fn read_segments(bytes: &[u8], at: usize, n: usize, t: &mut [u64]) -> StoredAt
 
 // `size` bytes of the file from `start` on, put at a place, a byte in each word.
 fn paste(bytes: &[u8], start: usize, size: usize, t: &mut [u64], place: usize)
-    requires size_in_bounds { place + size ≤ length t.old }
-    requires size_in_bounds_2 { start + size ≤ length bytes.now }
+    requires t_has_room { place + size ≤ length t.old }
+    requires bytes_reach { start + size ≤ length bytes.now }
     ensures { t.new ≡ with_part t.old place (place + size) (part bytes.now start size) }
 {
     let mut i: usize = 0;

@@ -124,7 +124,7 @@ fn weave_into(t: &[u64], body: &[u8], image: &mut [u8]) -> usize
 // Puts the static bytes of the positions from..to of a template at their places in image.
 fn put_static(t: &[u64], from: usize, to: usize, image: &mut [u8])
     requires template_words_in_bounds { template_words ≤ length t.now }
-    requires from_le_to { (from ≤ to) × (to ≤ static_limit) × (to ≤ length image.old) }
+    requires span_in_bounds { (from ≤ to) × (to ≤ static_limit) × (to ≤ length image.old) }
     ensures { Put (window t.now from (to - from)) from image.old to image.new }
 {
     let mut k = from;

@@ -15,7 +15,7 @@ use table::judged_head;
 pub(crate) fn sum_fits(packet: &[u8], field: usize, start: usize, first: u64) -> bool
     requires testable { Testable packet.now }
     requires sum_place { SumPlace field start }
-    requires field_in_bounds { (field + 2 ≤ length packet.now) × (first ≡ seed start packet.now) }
+    requires field_and_seed { (field + 2 ≤ length packet.now) × (first ≡ seed start packet.now) }
     ensures { result ≡ fits_sum (sum_at field start) packet.now }
 {
     let v = completion(packet, field, start, first);
@@ -38,7 +38,7 @@ pub fn put_seed(t: &[u64], first: u64, front: &mut [u8])
 fn completion(packet: &[u8], field: usize, start: usize, first: u64) -> u64
     requires testable { Testable packet.now }
     requires sum_place { SumPlace field start }
-    requires field_in_bounds { (field + 2 ≤ length packet.now) × (first ≡ seed start packet.now) }
+    requires field_and_seed { (field + 2 ≤ length packet.now) × (first ≡ seed start packet.now) }
     ensures { (result ≡ completion field start packet.now) × (result ≤ 65535) }
 {
     let hi = byte_at(packet, field);

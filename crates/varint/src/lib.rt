@@ -84,7 +84,7 @@ pub fn write(value: u64, out: &mut [u8]) -> Answer
 
 // Puts the value in its shortest form at a place of the output, and returns the place behind it: for the writers above, which know that there is room.
 pub fn put_number(out: &mut [u8], at: usize, value: u64) -> usize
-    requires value_in_bounds { at + encoded_size value ≤ length out.old }
+    requires room { at + encoded_size value ≤ length out.old }
     requires value_lt_limit { value < limit }
     ensures { Put (encode value) at out.old result out.new }
 {

@@ -35,7 +35,7 @@ returns-then-not-in_order c =
 pub run_behind-behind-requires : goal.run_behind-behind-requires
 run_behind-behind-requires c =
     let t = called_true c.range_sound-in-loop-i.ensures c.if-not-range_sound.false in
-    record { route_words_in_bounds = search rules; j_lt_n = (c.loop-i-test.true, omega arith); j_value = List.said-sound c.range_at-r-in-loop-i.ensures t }
+    record { route_words_in_bounds = search rules; j_in_list = (c.loop-i-test.true, omega arith); range_j_sound = List.said-sound c.range_at-r-in-loop-i.ensures t }
 
 pub returns-then-not-behind : goal.returns-then-not-behind
 returns-then-not-behind c =

@@ -7,26 +7,26 @@ use Rattle.lists.proofs.run4.Goals as goal
 
 pub loop-i-init : goal.loop-i-init
 loop-i-init c =
-    Law.run4_start c.requires.j_value.1 c.requires.j_lt_n.0 c.requires.j_value.0
+    Law.run4_start c.requires.range_j_sound.1 c.requires.j_in_list.0 c.requires.range_j_sound.0
 
 pub returns-then-own-tag : goal.returns-then-own-tag
 returns-then-own-tag c = Law.run4_done c.loop-i.invariant c.ended.ensures.0 c.ended.ensures.1
 
 pub returns-then-start-end : goal.returns-then-start-end
 returns-then-start-end c =
-    Law.run_broken (Law.run4_stop c.loop-i.invariant c.requires.j_value.1 c.loop-i-test.true
+    Law.run_broken (Law.run4_stop c.loop-i.invariant c.requires.range_j_sound.1 c.loop-i-test.true
     c.if-own-tag.false (inl c.if-start-end.true))
 
 pub returns-then-next-start : goal.returns-then-next-start
 returns-then-next-start c =
-    Law.run_broken (Law.run4_stop c.loop-i.invariant c.requires.j_value.1
+    Law.run_broken (Law.run4_stop c.loop-i.invariant c.requires.range_j_sound.1
     c.loop-i-test.true
     c.if-own-tag.false (inr c.if-next-start.true))
 
 pub loop-i-preserved : goal.loop-i-preserved
 loop-i-preserved c =
     let m = c.bits_of-high.ensures in
-    Law.run4_next c.loop-i.invariant c.requires.j_value.1 c.loop-i-test.true
+    Law.run4_next c.loop-i.invariant c.requires.range_j_sound.1 c.loop-i-test.true
     c.if-own-tag.false c.if-start-end.false c.if-next-start.false
     (m.0, omega (arith, m.1), omega (arith, m.2), omega (arith, m.3))
 

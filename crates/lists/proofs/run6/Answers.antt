@@ -5,7 +5,7 @@ use Rattle.lists.proofs.RunLaws as Law
 use Rattle.lists.proofs.run6.Goals as goal
 
 pub loop-i-init : goal.loop-i-init
-loop-i-init c = Law.run6_start c.requires.j_lt_n.0
+loop-i-init c = Law.run6_start c.requires.j_in_list.0
 
 pub returns-then-own-tag : goal.returns-then-own-tag
 returns-then-own-tag c = Law.run6_done c.loop-i.invariant
@@ -28,7 +28,7 @@ returns-then-not-at_most c =
 pub loop-i-preserved : goal.loop-i-preserved
 loop-i-preserved c =
     Law.run6_next c.loop-i.invariant c.loop-i-test.true
-    c.if-own-tag.false c.requires.j_value.1
+    c.if-own-tag.false c.requires.range_j_sound.1
     (called_true c.below.ensures c.if-not-below.false) (called_true
     c.at_most.ensures c.if-not-at_most.false)
 

@@ -6,10 +6,10 @@ use Rattle.lists.proofs.run_behind.Goals as goal
 
 pub run4-requires : goal.run4-requires
 run4-requires c =
-    record { route_words_in_bounds = c.requires.route_words_in_bounds; j_lt_n = c.requires.j_lt_n; j_value = (c.requires.j_value.0, c.requires.j_value.1 ∙ c.if-version-eq4.true) }
+    record { route_words_in_bounds = c.requires.route_words_in_bounds; j_in_list = c.requires.j_in_list; range_j_sound = (c.requires.range_j_sound.0, c.requires.range_j_sound.1 ∙ c.if-version-eq4.true) }
 
 pub run6-requires : goal.run6-requires
 run6-requires c =
     let a = c.args in
-    let p = c.requires.j_value in
-    record { route_words_in_bounds = c.requires.route_words_in_bounds; j_lt_n = c.requires.j_lt_n; j_value = (p.0, Law.not_four (range_at a.w.now a.j) a.version p.0 p.1 c.if-version-eq4.false) }
+    let p = c.requires.range_j_sound in
+    record { route_words_in_bounds = c.requires.route_words_in_bounds; j_in_list = c.requires.j_in_list; range_j_sound = (p.0, Law.not_four (range_at a.w.now a.j) a.version p.0 p.1 c.if-version-eq4.false) }

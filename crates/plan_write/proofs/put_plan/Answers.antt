@@ -8,14 +8,14 @@ use Rattle.plan_write.proofs.put_plan.Goals as goal
 pub put_count-first-requires : goal.put_count-first-requires
 put_count-first-requires c =
     let p = c.put_head-count.ensures in
-    omega (arith, c.requires.w_value.1, p.place, p.kept, (table_usable c.args.w.now c.requires.w_value.0).few)
+    omega (arith, c.requires.sound_and_room.1, p.place, p.kept, (table_usable c.args.w.now c.requires.sound_and_room.0).few)
 
 pub put_templates-requires : goal.put_templates-requires
 put_templates-requires c =
     let p = c.put_head-count.ensures in
     let q = c.put_count-first.ensures in
-    let u = table_usable c.args.w.now c.requires.w_value.0 in
-    record { table_words_in_bounds = c.requires.table_words_in_bounds; usable = u; w_in_bounds = omega (arith, c.requires.w_value.1, p.place, p.kept, q.place, q.kept, length_plan c.args.w.now, plan-most c.args.w.now u) }
+    let u = table_usable c.args.w.now c.requires.sound_and_room.0 in
+    record { table_words_in_bounds = c.requires.table_words_in_bounds; usable = u; room = omega (arith, c.requires.sound_and_room.1, p.place, p.kept, q.place, q.kept, length_plan c.args.w.now, plan-most c.args.w.now u) }
 
 pub returns : goal.returns
 returns c = put-file c.args.w.now c.put_head-count.ensures c.put_count-first.ensures c.put_templates.ensures

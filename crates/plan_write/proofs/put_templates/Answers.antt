@@ -18,7 +18,7 @@ put_template-next-requires c =
     let l = c.loop-i in
     let h = c.loop-i-test.true in
     let e = words-at c.args.w.now l.i in
-    record { template_words_in_bounds = search rules; usable_template = usable-turn c.args.w.now l.i c.requires.usable h e; t_in_bounds = template-room c.args.w.now l.i _ h e l.invariant.1 c.requires.w_in_bounds }
+    record { template_words_in_bounds = search rules; usable_template = usable-turn c.args.w.now l.i c.requires.usable h e; room = template-room c.args.w.now l.i _ h e l.invariant.1 c.requires.room }
 
 pub loop-i-preserved : goal.loop-i-preserved
 loop-i-preserved c =

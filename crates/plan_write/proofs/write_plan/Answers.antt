@@ -9,7 +9,7 @@ pub returns-then-out-lt-PLAN_ROOM : goal.returns-then-out-lt-PLAN_ROOM
 returns-then-out-lt-PLAN_ROOM c = refused (no_room _ _ (omega arith))
 
 pub put_plan-requires : goal.put_plan-requires
-put_plan-requires c = record { table_words_in_bounds = search rules; w_value = (fault-sound _ (sym c.table_fault-fault.ensures ∙ c.in-Go.is), omega arith) }
+put_plan-requires c = record { table_words_in_bounds = search rules; sound_and_room = (fault-sound _ (sym c.table_fault-fault.ensures ∙ c.in-Go.is), omega arith) }
 
 pub returns-in-Go : goal.returns-in-Go
 returns-in-Go c = wrote (fault-says _ _ (omega arith) c.table_fault-fault.ensures c.in-Go.is) c.put_plan.ensures

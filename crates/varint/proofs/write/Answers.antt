@@ -11,7 +11,7 @@ pub returns-then-value-ge-LIMIT : goal.returns-then-value-ge-LIMIT
 returns-then-value-ge-LIMIT c = Writing.too_large _ _ (omega arith) (omega arith)
 
 pub put_number-requires : goal.put_number-requires
-put_number-requires c = record { value_in_bounds = omega (arith, Encoding.size-bounds c.args.value); value_lt_limit = omega arith }
+put_number-requires c = record { room = omega (arith, Encoding.size-bounds c.args.value); value_lt_limit = omega arith }
 
 pub returns : goal.returns
 returns c = Writing.put _ _ (omega arith) (omega arith) c.put_number.ensures

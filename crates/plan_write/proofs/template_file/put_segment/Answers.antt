@@ -7,8 +7,8 @@ use Rattle.plan_write.proofs.template_file.put_segment.Goals as goal
 pub put_number-length-requires : goal.put_number-length-requires
 put_number-length-requires c =
     record {
-      value_in_bounds = omega (arith, c.requires.segment_in_bounds, length_encode c.args.segment.offset, length_bytes c.args.t.now c.args.segment);
-      value_lt_limit = omega (arith, c.requires.length_bound);
+      value_in_bounds = omega (arith, c.requires.room, length_encode c.args.segment.offset, length_bytes c.args.t.now c.args.segment);
+      value_lt_limit = omega (arith, c.requires.segment_in_static);
     }
 
 pub put_number-bytes-requires : goal.put_number-bytes-requires
@@ -17,8 +17,8 @@ put_number-bytes-requires c =
     let e = length_encode c.args.segment.offset in
     let f = length_encode c.args.segment.length in
     record {
-      value_in_bounds = omega (arith, c.requires.segment_in_bounds, p.place, p.kept, e, f, length_bytes c.args.t.now c.args.segment);
-      value_lt_limit = omega (arith, c.requires.length_bound);
+      value_in_bounds = omega (arith, c.requires.room, p.place, p.kept, e, f, length_bytes c.args.t.now c.args.segment);
+      value_lt_limit = omega (arith, c.requires.segment_in_static);
     }
 
 pub put_static-requires : goal.put_static-requires
@@ -27,7 +27,7 @@ put_static-requires c =
     let q = c.put_number-bytes.ensures in
     record {
       template_words_in_bounds = c.requires.template_words_in_bounds;
-      size_bound = (c.requires.length_bound, omega (arith, c.requires.segment_in_bounds, p.place, p.kept, q.place, q.kept, length_bytes c.args.t.now c.args.segment));
+      static_and_room = (c.requires.segment_in_static, omega (arith, c.requires.room, p.place, p.kept, q.place, q.kept, length_bytes c.args.t.now c.args.segment));
     }
 
 pub returns : goal.returns

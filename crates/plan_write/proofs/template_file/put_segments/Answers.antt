@@ -17,7 +17,7 @@ put_segment-next-requires c =
     let l = c.loop-j in
     let h = c.head_of-head in
     let e = c.segment_at-s.ensures in
-    record { template_words_in_bounds = c.requires.template_words_in_bounds; length_bound = segment_within c.args.t.now h.ensures c.requires.usable_template l.j c.loop-j-test.true e; segment_in_bounds = piece_room c.args.t.now l.j h.result.count c.loop-j-test.true e l.invariant.1 c.requires.t_in_bounds }
+    record { template_words_in_bounds = c.requires.template_words_in_bounds; segment_in_static = segment_within c.args.t.now h.ensures c.requires.usable_template l.j c.loop-j-test.true e; room = piece_room c.args.t.now l.j h.result.count c.loop-j-test.true e l.invariant.1 c.requires.room }
 
 pub loop-j-preserved : goal.loop-j-preserved
 loop-j-preserved c =

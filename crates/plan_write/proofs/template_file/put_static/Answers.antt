@@ -11,7 +11,7 @@ loop-i-init c = let a = c.args in (omega arith, putting_none (static-start a.t.n
 pub put_byte-next-requires : goal.put_byte-next-requires
 put_byte-next-requires c =
     let l = c.loop-i in
-    static-room c.args.t.now c.args.offset c.args.size l.i c.loop-i-test.true c.byte_at-b.ensures l.invariant.1 c.requires.size_bound.1
+    static-room c.args.t.now c.args.offset c.args.size l.i c.loop-i-test.true c.byte_at-b.ensures l.invariant.1 c.requires.static_and_room.1
 
 pub loop-i-preserved : goal.loop-i-preserved
 loop-i-preserved c =

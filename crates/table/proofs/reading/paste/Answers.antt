@@ -7,7 +7,7 @@ loop-i-init c = paste_start _ _ _ _ _
 
 pub loop-i-preserved : goal.loop-i-preserved
 loop-i-preserved c =
-    paste_next _ _ _ _ _ c.loop-i.invariant c.loop-i-test.true c.requires.size_in_bounds_2 c.requires.size_in_bounds
+    paste_next _ _ _ _ _ c.loop-i.invariant c.loop-i-test.true c.requires.bytes_reach c.requires.t_has_room
 
 pub returns : goal.returns
 returns c = paste_end _ _ _ _ _ c.loop-i.invariant c.loop-i-test.false

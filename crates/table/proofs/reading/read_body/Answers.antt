@@ -10,7 +10,7 @@ pub returns-then-n-gt-MAX_SEGMENTS : goal.returns-then-n-gt-MAX_SEGMENTS
 returns-then-n-gt-MAX_SEGMENTS c = body-stop c.args.bytes.now c.args.t.now c.requires.t_len c.not_stored-then-n-gt-MAX_SEGMENTS.ensures (body-over c.args.bytes.now c.args.at c.args.id c.if-bytes-at.false c.if-n-gt-MAX_SEGMENTS.true)
 
 pub read_segments-parts-requires : goal.read_segments-parts-requires
-read_segments-parts-requires c = record { t_len = c.requires.t_len; t_value = c.requires.t_value; at_in_bounds = (omega arith, omega (arith, c.if-n-gt-MAX_SEGMENTS.false)) }
+read_segments-parts-requires c = record { t_len = c.requires.t_len; t_blank = c.requires.t_blank; at_in_bounds = (omega arith, omega (arith, c.if-n-gt-MAX_SEGMENTS.false)) }
 
 pub returns-in-Go : goal.returns-in-Go
 returns-in-Go c =

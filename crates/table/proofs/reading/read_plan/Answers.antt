@@ -11,7 +11,7 @@ pub read_templates-read-requires : goal.read_templates-read-requires
 read_templates-read-requires c =
     let f = c.head_fault-fault.ensures in
     let e = c.in-Go.is in
-    record { table_len = refl; table_value = refl; in_bounds = (f.long e, f.few e) }
+    record { table_len = refl; table_blank = refl; in_bounds = (f.long e, f.few e) }
 
 pub returns-in-Stop : goal.returns-in-Stop
 returns-in-Stop c = load_stop _ _ c.head_fault-fault.ensures c.in-Stop.is

@@ -5,7 +5,7 @@ use Rattle.table.proofs.Gathering.{gather, gather-end, gather-stop, gather-next,
 use Rattle.table.proofs.reading.read_segments.Goals as goal
 
 pub loop-j-init : goal.loop-j-init
-loop-j-init c = gather _ _ _ _ c.requires.t_len c.requires.t_value c.requires.at_in_bounds.0
+loop-j-init c = gather _ _ _ _ c.requires.t_len c.requires.t_blank c.requires.at_in_bounds.0
 
 pub bounds-t-place-in-Go : goal.bounds-t-place-in-Go
 bounds-t-place-in-Go c = simp length-set (omega arith)
@@ -17,7 +17,7 @@ pub paste-requires : goal.paste-requires
 paste-requires c =
     let l = c.loop-j in
     let b = piece_inside c.args.bytes.now (drop l.next c.args.bytes.now) l.ended c.read_segment-read.ensures c.in-Go.is in
-    record { size_in_bounds = simp length-set (omega (arith, b, l.invariant.size)); size_in_bounds_2 = c.read_segment-read.ensures.within }
+    record { t_has_room = simp length-set (omega (arith, b, l.invariant.size)); bytes_reach = c.read_segment-read.ensures.within }
 
 pub overflow_add-ended : goal.overflow_add-ended
 overflow_add-ended c = let l = c.loop-j in omega (arith, piece_inside c.args.bytes.now (drop l.next c.args.bytes.now) l.ended c.read_segment-read.ensures c.in-Go.is)

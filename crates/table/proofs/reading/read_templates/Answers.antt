@@ -8,12 +8,12 @@ use Rattle.table.proofs.Gathering.{collect, collect_blank, collect-over, collect
 use Rattle.table.proofs.reading.read_templates.Goals as goal
 
 pub loop-i-init : goal.loop-i-init
-loop-i-init c = collect _ _ _ c.requires.table_len c.requires.table_value c.requires.in_bounds.0
+loop-i-init c = collect _ _ _ c.requires.table_len c.requires.table_blank c.requires.in_bounds.0
 
 pub read_template-read-requires : goal.read_template-read-requires
 read_template-read-requires c =
     let b = collect_blank c.loop-i.invariant (omega arith) in
-    record { t_len = ap length b ∙ length-replicate {A = ℕ} template_words 0; t_value = b; at_in_bounds = c.loop-i.invariant.within }
+    record { t_len = ap length b ∙ length-replicate {A = ℕ} template_words 0; t_blank = b; at_in_bounds = c.loop-i.invariant.within }
 
 pub loop-i-preserved : goal.loop-i-preserved
 loop-i-preserved c = collect-next c.loop-i.invariant c.loop-i-test.true c.read_template-read.ensures (omega arith) c.in-Go.is refl
