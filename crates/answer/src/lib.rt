@@ -6,7 +6,7 @@ ghost use Rattle.std.specs.Prelude.{◌≡◌};
 ghost use Rattle.answer.specs.Number.{number_of, verdict_number, answer_number, answer_length};
 
 // A reason to refuse, one for each number.
-#[derive(Drop)]
+#[derive(Clone, Copy)]
 pub enum Refusal {
     // 1: a capsule, or a number read by itself, is not all there.
     Incomplete,
@@ -53,14 +53,14 @@ pub enum Refusal {
 }
 
 // What an entry point that writes answers: how many bytes it wrote, or why it refused.
-#[derive(Drop)]
+#[derive(Clone, Copy)]
 pub enum Answer {
     Done(usize),
     Refused(Refusal),
 }
 
 // What a judge says: go on, or the first reason to refuse.
-#[derive(Drop)]
+#[derive(Clone, Copy)]
 pub enum Verdict {
     Go,
     Stop(Refusal),

@@ -7,14 +7,14 @@ use lists::{AddressEntry, RequestId, RouteRange};
 use varint::NumberRead;
 
 // An entry and how many bytes it took; or one that is cut or breaks its rule.
-#[derive(Drop)]
+#[derive(Clone, Copy)]
 pub enum EntryRead {
     Good { entry: AddressEntry, size: usize },
     Bad,
 }
 
 // A range likewise.
-#[derive(Drop)]
+#[derive(Clone, Copy)]
 pub enum RangeRead {
     Good { range: RouteRange, size: usize },
     Bad,
@@ -82,7 +82,7 @@ fn read_body(id: u64, n: usize, t: &[u8]) -> EntryRead
 }
 
 // The Request ID of an entry that is good, and how many bytes the entry takes.
-#[derive(Drop)]
+#[derive(Clone, Copy)]
 pub(crate) struct IdRead {
     pub(crate) id: u64,
     pub(crate) size: usize,

@@ -29,7 +29,7 @@ pub const OTHER_KIND: u64 = 4;
 
 // What stood at a place of a buffer: the kind is 0 DATAGRAM, 1 ADDRESS_ASSIGN, 2 ADDRESS_REQUEST, 3 ROUTE_ADVERTISEMENT, 4 any other type.
 // The value stands in the buffer from start on, and reading goes on at next. A refusal leaves the place, and all else is 0.
-#[derive(Drop)]
+#[derive(Clone, Copy)]
 pub struct CapsuleRead {
     pub verdict: Verdict,
     pub kind: u64,
@@ -39,7 +39,7 @@ pub struct CapsuleRead {
 }
 
 // Type and length at the front of some bytes, and where the value starts; or they are not all there.
-#[derive(Drop)]
+#[derive(Clone, Copy)]
 pub enum Head {
     Known {
         kind: u64,
@@ -50,7 +50,7 @@ pub enum Head {
 }
 
 // Where the value of a capsule at the front of some bytes starts, and how long it is.
-#[derive(Drop)]
+#[derive(Clone, Copy)]
 pub enum FrameRead {
     Value {
         kind: u64,

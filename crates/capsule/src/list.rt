@@ -19,13 +19,13 @@ const MIN_ENTRY: usize = 7;
 // The most entries that a value within the limit can hold.
 const MAX_ENTRIES: usize = MAX_VALUE / MIN_ENTRY;
 
-#[derive(Drop)]
+#[derive(Clone, Copy)]
 pub struct EntriesRead {
     pub verdict: Verdict,
     pub list: AddressList,
 }
 
-#[derive(Drop)]
+#[derive(Clone, Copy)]
 pub struct RangesRead {
     pub verdict: Verdict,
     pub list: RouteList,

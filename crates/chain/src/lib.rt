@@ -11,7 +11,7 @@ pub use class::is_extension;
 use class::{CLASSES, EIGHTS, FOURS, FRAGMENT, PLAIN};
 
 // What a packet carries, by its number; bytes of bad form are no packet.
-#[derive(Drop)]
+#[derive(Clone, Copy)]
 pub enum Carried {
     Protocol(u8),
     BadForm,

@@ -17,7 +17,7 @@ const RECEIVED_ROUTES_AT: usize = RECEIVED_AT + ADDRESS_WORDS;
 const GIVEN_ROUTES_AT: usize = GIVEN_AT + ADDRESS_WORDS;
 
 #[repr(C)]
-#[derive(Drop)]
+#[derive(Clone, Copy)]
 pub struct Grants {
     pub received_addresses: AddressList,
     pub received_routes: RouteList,

@@ -56,14 +56,14 @@ pub struct RouteRange {
 
 // Entry i has the words 4 i + 1 to 4 i + 4: Request ID, version + 256 * prefix, hi, lo.
 #[repr(C)]
-#[derive(Drop)]
+#[derive(Clone, Copy)]
 pub struct AddressList {
     pub words: [u64; ADDRESS_WORDS],
 }
 
 // Range i has the words 5 i + 1 to 5 i + 5: version + 256 * protocol, start, end.
 #[repr(C)]
-#[derive(Drop)]
+#[derive(Clone, Copy)]
 pub struct RouteList {
     pub words: [u64; ROUTE_WORDS],
 }
@@ -255,7 +255,7 @@ pub fn short_routes(w: &[u64]) -> bool
 }
 
 // Entries of one tag put together: the bits of all their words, and where the next entry stands.
-#[derive(Drop)]
+#[derive(Clone, Copy)]
 pub struct Joined {
     pub next: usize,
     pub id: u64,
@@ -319,7 +319,7 @@ pub fn addresses_sound(w: &[u64]) -> bool
 }
 
 // A run of ranges of one tag, version and protocol: where its last one stands, and whether all behind its first are sound and in order.
-#[derive(Drop)]
+#[derive(Clone, Copy)]
 pub struct Run {
     pub last: usize,
     pub sound: bool,

@@ -19,7 +19,7 @@ pub const SIDE_WORDS: usize = ADDRESS_WORDS + ROUTE_WORDS;
 
 // All of a packet that its verdict depends on.
 #[repr(C)]
-#[derive(Drop)]
+#[derive(Clone, Copy)]
 pub struct Flow {
     pub source: Address,
     pub destination: Address,

@@ -18,7 +18,7 @@ use state::{STATE_WORDS, STORE_AT};
 
 // What a call says: 0 with a capsule of a kind, and how many bytes of its value stand in the output; 0 between capsules; 1, in a capsule; or any
 // other number.
-#[derive(Drop)]
+#[derive(Clone, Copy)]
 pub enum Call {
     Handed { kind: u64, length: usize },
     Between,
@@ -27,7 +27,7 @@ pub enum Call {
 }
 
 // And how many of the bytes it took.
-#[derive(Drop)]
+#[derive(Clone, Copy)]
 pub struct Piece {
     pub call: Call,
     pub taken: usize,

@@ -19,7 +19,7 @@ use answer::{Refusal, Verdict};
 use varint::NumberRead;
 
 // A number in its shortest form.
-#[derive(Drop)]
+#[derive(Clone, Copy)]
 pub struct NumberAt {
     pub verdict: Verdict,
     pub value: u64,
@@ -27,7 +27,7 @@ pub struct NumberAt {
 }
 
 // Two numbers, one behind the other.
-#[derive(Drop)]
+#[derive(Clone, Copy)]
 pub struct TwoAt {
     pub verdict: Verdict,
     pub first: usize,
@@ -36,7 +36,7 @@ pub struct TwoAt {
 }
 
 // A segment, whose static bytes stand in the file from `start` on.
-#[derive(Drop)]
+#[derive(Clone, Copy)]
 pub struct SegmentAt {
     pub verdict: Verdict,
     pub offset: usize,
@@ -45,13 +45,13 @@ pub struct SegmentAt {
 }
 
 // What is stored in the words of a template.
-#[derive(Drop)]
+#[derive(Clone, Copy)]
 pub struct StoredAt {
     pub verdict: Verdict,
     pub next: usize,
 }
 
-#[derive(Drop)]
+#[derive(Clone, Copy)]
 pub struct ChecksumAt {
     pub verdict: Verdict,
     pub next: usize,
@@ -61,7 +61,7 @@ pub struct ChecksumAt {
 }
 
 // A template, whose words are stored.
-#[derive(Drop)]
+#[derive(Clone, Copy)]
 pub struct TemplateAt {
     pub verdict: Verdict,
     pub id: u64,
@@ -222,9 +222,10 @@ fn read_body(bytes: &[u8], at: usize, id: u64, t: &mut [u64]) -> StoredAt
     match fault {
         Verdict::Go => {
             let sum = read_checksum(bytes, parts.next, t, n);
-            put_head(t, id, n, &sum);
+            let verdict = sum.verdict;
+            put_head(t, id, n, sum);
             StoredAt {
-                verdict: sum.verdict,
+                verdict,
                 next: sum.next,
             }
         }
@@ -242,9 +243,9 @@ fn not_stored(why: Refusal) -> StoredAt
 }
 
 // The head of a template of this ID, of n segments and with this checksum.
-fn put_head(t: &mut [u64], id: u64, n: usize, sum: &ChecksumAt)
+fn put_head(t: &mut [u64], id: u64, n: usize, sum: ChecksumAt)
     requires { template_words ≤ length t.old }
-    ensures { t.new ≡ headed id n sum.now t.old }
+    ensures { t.new ≡ headed id n sum t.old }
 {
     t[0] = id;
     t[1] = n as u64;

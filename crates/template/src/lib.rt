@@ -12,14 +12,14 @@ pub mod body; // body.rt: the bytes outside the segments, and the packet rebuilt
 pub const MAX_PACKET: usize = 1500;
 
 // The place of a template in a table.
-#[derive(Drop)]
+#[derive(Clone, Copy)]
 pub enum Found {
     At(usize),
     Nothing,
 }
 
 // The place of the template that fits a packet, and the seed under its checksum: 0 where it has none.
-#[derive(Drop)]
+#[derive(Clone, Copy)]
 pub enum Fit {
     By(usize, u64),
     None,

@@ -10,7 +10,7 @@ use state::STATE_WORDS;
 
 // What stood at a place: the kind is its type, or 4 for a type that was skipped; a DATAGRAM's value has a start and a length.
 #[repr(C)]
-#[derive(Drop)]
+#[derive(Clone, Copy)]
 pub struct PlainCapsule {
     pub number: u64,
     pub kind: u64,

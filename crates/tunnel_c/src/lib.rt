@@ -22,7 +22,7 @@ const WORD_BYTES: usize = 8;
 
 // An answer: its number, and how many bytes were written.
 #[repr(C)]
-#[derive(Drop)]
+#[derive(Clone, Copy)]
 pub struct PlainAnswer {
     pub number: u64,
     pub length: u64,
@@ -30,7 +30,7 @@ pub struct PlainAnswer {
 
 // A number that was read: its value and how many bytes it took, both 0 with a refusal.
 #[repr(C)]
-#[derive(Drop)]
+#[derive(Clone, Copy)]
 pub struct PlainNumber {
     pub number: u64,
     pub value: u64,

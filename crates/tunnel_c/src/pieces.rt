@@ -11,7 +11,7 @@ use stream::{Call, KEPT_SIZE, Piece};
 // What a call answers: with number 0 a capsule of a kind was handed out, or, where handed is 0, there was nothing to read; 1 is wait. The length is that
 // of a DATAGRAM's value, and taken says how many of the bytes were taken.
 #[repr(C)]
-#[derive(Drop)]
+#[derive(Clone, Copy)]
 pub struct PlainPiece {
     pub number: u64,
     pub handed: u64,

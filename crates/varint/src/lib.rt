@@ -17,7 +17,7 @@ pub const LIMIT: u64 = 4611686018427387904;
 pub const ROOM: usize = 8;
 
 // A number at the front of some bytes, and how many bytes it took; or not all there.
-#[derive(Drop)]
+#[derive(Clone, Copy)]
 pub enum NumberRead {
     Whole { value: u64, size: usize },
     Cut,

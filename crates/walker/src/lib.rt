@@ -9,7 +9,7 @@ ghost use Rattle.walker.specs.Walk.{walker_at, behind};
 
 use capsule::CapsuleRead;
 
-#[derive(Drop)]
+#[derive(Clone, Copy)]
 pub struct Walker<'a> {
     pub bytes: &'a [u8],
     pub at: usize,

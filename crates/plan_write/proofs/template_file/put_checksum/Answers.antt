@@ -14,13 +14,13 @@ pub put_number-start-requires : goal.put_number-start-requires
 put_number-start-requires c =
     let h = c.head_of-head in
     let f = sum-place c.args.t.now h.ensures c.requires.usable_template c.if-head.true in
-    record { value_in_bounds = omega (arith, c.requires.room, length_encode h.result.field, length_sum c.args.t.now h.ensures c.if-head.true, c.put_byte-field.ensures.place, c.put_byte-field.ensures.kept); value_lt_limit = omega (arith, f.high) }
+    record { room = omega (arith, c.requires.room, length_encode h.result.field, length_sum c.args.t.now h.ensures c.if-head.true, c.put_byte-field.ensures.place, c.put_byte-field.ensures.kept); value_lt_limit = omega (arith, f.high) }
 
 pub put_number-requires : goal.put_number-requires
 put_number-requires c =
     let h = c.head_of-head in
     let f = sum-place c.args.t.now h.ensures c.requires.usable_template c.if-head.true in
-    record { value_in_bounds = omega (arith, c.requires.room, length_encode h.result.start, length_sum c.args.t.now h.ensures c.if-head.true, c.put_byte-field.ensures.place, c.put_byte-field.ensures.kept, c.put_number-start.ensures.place, c.put_number-start.ensures.kept); value_lt_limit = omega (arith, f.high, f.order) }
+    record { room = omega (arith, c.requires.room, length_encode h.result.start, length_sum c.args.t.now h.ensures c.if-head.true, c.put_byte-field.ensures.place, c.put_byte-field.ensures.kept, c.put_number-start.ensures.place, c.put_number-start.ensures.kept); value_lt_limit = omega (arith, f.high, f.order) }
 
 pub returns-then-head : goal.returns-then-head
 returns-then-head c = put_as (sum-some c.args.t.now c.head_of-head.ensures c.if-head.true) (put_then c.put_byte-field.ensures (put_then c.put_number-start.ensures c.put_number.ensures))

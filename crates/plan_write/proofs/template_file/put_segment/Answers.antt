@@ -7,7 +7,7 @@ use Rattle.plan_write.proofs.template_file.put_segment.Goals as goal
 pub put_number-length-requires : goal.put_number-length-requires
 put_number-length-requires c =
     record {
-      value_in_bounds = omega (arith, c.requires.room, length_encode c.args.segment.offset, length_bytes c.args.t.now c.args.segment);
+      room = omega (arith, c.requires.room, length_encode c.args.segment.offset, length_bytes c.args.t.now c.args.segment);
       value_lt_limit = omega (arith, c.requires.segment_in_static);
     }
 
@@ -17,7 +17,7 @@ put_number-bytes-requires c =
     let e = length_encode c.args.segment.offset in
     let f = length_encode c.args.segment.length in
     record {
-      value_in_bounds = omega (arith, c.requires.room, p.place, p.kept, e, f, length_bytes c.args.t.now c.args.segment);
+      room = omega (arith, c.requires.room, p.place, p.kept, e, f, length_bytes c.args.t.now c.args.segment);
       value_lt_limit = omega (arith, c.requires.segment_in_static);
     }
 

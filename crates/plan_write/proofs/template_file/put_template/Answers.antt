@@ -7,7 +7,7 @@ use Rattle.plan_write.proofs.template_file.put_template.Goals as goal
 pub put_number-count-requires : goal.put_number-count-requires
 put_number-count-requires c =
     let h = c.head_of-head in
-    record { value_in_bounds = omega (arith, c.requires.room, length_encode h.result.id.0, length_template c.args.t.now h.ensures); value_lt_limit = template-id c.args.t.now h.ensures c.requires.usable_template }
+    record { room = omega (arith, c.requires.room, length_encode h.result.id.0, length_template c.args.t.now h.ensures); value_lt_limit = template-id c.args.t.now h.ensures c.requires.usable_template }
 
 pub put_count-first-requires : goal.put_count-first-requires
 put_count-first-requires c =
