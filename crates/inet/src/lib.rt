@@ -11,7 +11,7 @@ pub mod transport; // transport.rt: the checksum of what a packet carries
 
 // An IP address: that of IPv4 in lo, with hi 0.
 #[repr(C)]
-#[derive(Drop)]
+#[derive(Clone, Copy)]
 pub struct Address {
     pub version: u8,
     pub hi: u64,

@@ -1,6 +1,6 @@
 -- The numbers so far and the words still to come fold to what all words fold to: the first word of four bytes counts 65536 times in their number, and
 -- that folds as once (`fold-high`). Assumes nothing.
-use Prim.Native.Nat.{ℕ, suc, ◌≤◌, ◌*◌, ◌%◌, ◌-◌, ◌+◌, ◌<◌}
+use Prim.Native.Nat.{ℕ, suc, ◌*◌, ◌+◌, ◌<◌}
 use mathlib.Core.Path.{◌≡◌, ap, ◌∙◌}
 use mathlib.Core.List.{List}
 use native.Mathlib.Omega.{arith}
@@ -9,9 +9,7 @@ use lib.Seq.{drop-cons}
 use Rattle.octets.specs.Big.{big_at}
 use Rattle.inet.specs.Sum.{words, fold}
 use Rattle.inet.proofs.WordLaws.{words_quad, words-end, fold-high}
-use borrow.Author.Rules.{rules}
-use Rattle.inet.proofs.sum.sum_quads.Statement.{statement}
-use Rattle.inet.proofs.sum.sum_quads.Tie as tie
+use Rattle.inet.proofs.sum.sum_quads.Goals as goal
 
 -- the number of four bytes is that of two words
 big-quad : (s : List ℕ) (i : ℕ) → i + 3 < length s
@@ -33,50 +31,15 @@ next-quad s i acc n h e =
     let y : acc + b + r + a ≡ acc + words (drop i s) = omega (arith, words_quad s i h) in
     ap fold x ∙ fold-high a (acc + b + r) ∙ ap fold y
 
-abbrev invariant-loop : tie.invariant-loop
-invariant-loop s acc₀ i₀ acc i = (i ≤ length s) × (i % 4 ≡ 0) × (acc ≤ 4294967296 * i) × (fold (acc + words (drop i s)) ≡ fold (words s))
+pub loop-i-preserved : goal.loop-i-preserved
+loop-i-preserved c =
+    let l = c.loop-i in
+    let s = c.args.s.now in
+    (omega arith, omega arith, omega arith, next-quad s l.i l.acc c.big_at-acc.result (omega arith) c.big_at-acc.ensures.0 ∙ l.invariant.3)
 
-abbrev decreases-loop : tie.decreases-loop
-decreases-loop s acc₀ i₀ acc i = length s - i
-
-loop-holds : tie.Need-loop-init invariant-loop decreases-loop
-loop-holds c = (omega arith, omega arith, omega arith, ap fold (omega arith))
-
-big-at-requires : tie.Need-big-at-requires invariant-loop decreases-loop
-big-at-requires c κs = search rules
-
-add-acc : tie.Need-overflow-add-acc invariant-loop decreases-loop
-add-acc c = search rules
-
-add-i : tie.Need-overflow-add-i invariant-loop decreases-loop
-add-i c = search rules
-
-loop-less : tie.Need-loop-smaller invariant-loop decreases-loop
-loop-less c = search rules
-
-loop-again : tie.Need-loop-preserved invariant-loop decreases-loop
-loop-again c =
-    let l = c.before.before.loop in
-    let s = c.before.before.before.before.args.s.now in
-    (omega arith, omega arith, omega arith, next-quad s l.i l.acc c.big-at.result (omega arith) c.big-at.ensures.0 ∙ l.invariant.3)
-
-returns : tie.Need-returns invariant-loop decreases-loop
+pub returns : goal.returns
 returns c =
-    let l = c.before.loop in
-    let s = c.before.before.before.args.s.now in
+    let l = c.loop-i in
+    let s = c.args.s.now in
     let e : l.acc ≡ l.acc + words (drop l.i s) = omega (arith, words-end s l.i (omega arith)) in
     (ap fold e ∙ l.invariant.3, omega arith)
-
-pub sum-quads-spec : {M : Type 1} → statement M
-sum-quads-spec =
-    tie.close
-    (tie.spec
-    invariant-loop
-    decreases-loop
-    loop-holds
-    big-at-requires
-    add-acc
-    add-i
-    loop-less
-    loop-again
-    returns)

@@ -9,17 +9,8 @@ use lib.Seq.{get_or-drop, get_or-take}
 use Rattle.octets.proofs.Parts.{tail}
 use Rattle.inet.specs.Sum.{words, SwappedWords}
 use Rattle.inet.proofs.WordLaws.{words_quad, words-end}
-use borrow.Author.Rules.{rules}
-use Rattle.inet.proofs.sum.sum_block.Statement.{statement}
-use Rattle.inet.proofs.sum.sum_block.Tie as tie
-
--- the sums of k bytes of each place
-record Halves (t : List ℕ) (high low k : ℕ) : Type 0 where
-  first : high % 65536 ≤ 255 * k
-  second : low % 65536 ≤ 255 * k
-  third : high / 65536 ≤ 255 * k
-  fourth : low / 65536 ≤ 255 * k
-  rest : (high % 65536 + high / 65536) * 256 + (low % 65536 + low / 65536) + words (drop (4 * k) t) ≡ words t
+use Rattle.inet.proofs.sum.sum_block.Invariants.{Halves}
+use Rattle.inet.proofs.sum.sum_block.Goals as goal
 
 -- two bytes added to two halves that have room for them
 module _ (n m k a b : ℕ) (few : k < 256) (room : n % 65536 ≤ 255 * k) (byte : a < 256) (both : m ≡ a + 65536 * b) where
@@ -83,105 +74,18 @@ module _ (s : List ℕ) (quads high low k w e o : ℕ) (long : 4 * quads ≤ len
         rest = rw (e0, e1, e2, e3, d) (omega (arith, q, h.rest, b.first, b.second, b.third, b.fourth));
       }
 
-abbrev invariant-loop : tie.invariant-loop
-invariant-loop s quads high₀ low₀ k₀ high low k = (k ≤ quads) × Halves (take (4 * quads) s) high low k
-
-abbrev decreases-loop : tie.decreases-loop
-decreases-loop s quads high₀ low₀ k₀ high low k = quads - k
-
-loop-holds : tie.Need-loop-init invariant-loop decreases-loop
-loop-holds c = search rules
-
-mul-swapped-words : tie.Need-overflow-mul-swapped-words invariant-loop decreases-loop
-mul-swapped-words c = search rules
-
-sub-swapped-words : tie.Need-overflow-sub-swapped-words invariant-loop decreases-loop
-sub-swapped-words c = search rules
-
-part-swapped-words-start : tie.Need-slice-bounds-swapped-words-start invariant-loop decreases-loop
-part-swapped-words-start c = search rules
-
-part-swapped-words-end : tie.Need-slice-bounds-swapped-words-end invariant-loop decreases-loop
-part-swapped-words-end c = search rules
-
-swapped-words-requires : tie.Need-swapped-words-requires invariant-loop decreases-loop
-swapped-words-requires c κs = search rules
-
-even-bytes-requires : tie.Need-even-bytes-requires invariant-loop decreases-loop
-even-bytes-requires c κs = search rules
-
-add-high : tie.Need-overflow-add-high invariant-loop decreases-loop
-add-high c = search rules
-
-even-bytes-requires-2 : tie.Need-even-bytes-requires-2 invariant-loop decreases-loop
-even-bytes-requires-2 c κs = search rules
-
-add_low : tie.Need-overflow-add-low invariant-loop decreases-loop
-add_low c = search rules
-
-add-k : tie.Need-overflow-add-k invariant-loop decreases-loop
-add-k c = search rules
-
-loop-less : tie.Need-loop-smaller invariant-loop decreases-loop
-loop-less c = search rules
-
-loop-again : tie.Need-loop-preserved invariant-loop decreases-loop
-loop-again c =
-    let l = c.before.before.before.before.before.loop in
-    let a = c.before.before.before.before.before.before.before.args in (
+pub loop-k-preserved : goal.loop-k-preserved
+loop-k-preserved c =
+    let l = c.loop-k in
+    let a = c.args in (
       omega arith,
-      halves-next a.s.now a.quads l.high l.low l.k c.before.before.swapped-words.result _ _ (omega arith) (omega arith) (omega arith) (omega arith)
-          c.before.before.swapped-words.ensures c.before.even-bytes.ensures c.even-bytes2.ensures l.invariant.1,
+      halves-next a.s.now a.quads l.high l.low l.k c.swapped_words-w.result _ _ (omega arith) (omega arith) (omega arith) (omega arith)
+          c.swapped_words-w.ensures c.even_bytes-high.ensures c.even_bytes-low.ensures l.invariant.1,
     )
 
-add-h : tie.Need-overflow-add-h invariant-loop decreases-loop
-add-h c = search rules
-
-cast-h : tie.Need-overflow-cast-h invariant-loop decreases-loop
-cast-h c = search rules
-
-add-l : tie.Need-overflow-add-l invariant-loop decreases-loop
-add-l c = search rules
-
-cast-l : tie.Need-overflow-cast-l invariant-loop decreases-loop
-cast-l c = search rules
-
-mul-result : tie.Need-overflow-mul-result invariant-loop decreases-loop
-mul-result c = search rules
-
-add-result : tie.Need-overflow-add-result invariant-loop decreases-loop
-add-result c = search rules
-
-returns : tie.Need-returns invariant-loop decreases-loop
+pub returns : goal.returns
 returns c =
-    let l = c.before.loop in
-    let a = c.before.before.before.args in
+    let l = c.loop-k in
+    let a = c.args in
     let t = take (4 * a.quads) a.s.now in
     omega (arith, words-end t (4 * l.k) (omega (arith, length-take (4 * a.quads) a.s.now)), l.invariant.1.rest)
-
-pub sum-block-spec : {M : Type 1} → statement M
-sum-block-spec =
-    tie.close
-    (tie.spec
-    invariant-loop
-    decreases-loop
-    loop-holds
-    mul-swapped-words
-    sub-swapped-words
-    part-swapped-words-start
-    part-swapped-words-end
-    swapped-words-requires
-    even-bytes-requires
-    add-high
-    even-bytes-requires-2
-    add_low
-    add-k
-    loop-less
-    loop-again
-    add-h
-    cast-h
-    add-l
-    cast-l
-    mul-result
-    add-result
-    returns)

@@ -3,8 +3,7 @@ use Prim.Native.Nat.{ℕ, ◌+◌, ◌*◌, ◌/◌, ◌%◌}
 use mathlib.Core.Path.{◌≡◌, ap, ◌∙◌}
 use native.Mathlib.Omega.{arith}
 use lib.Bits.{bit_and, and_block, and_mask}
-use Rattle.inet.proofs.sum.even_bytes.Statement.{statement}
-use Rattle.inet.proofs.sum.even_bytes.Tie as tie
+use Rattle.inet.proofs.sum.even_bytes.Goals as goal
 
 and-even : (w : ℕ) → bit_and w 16711935 ≡ w % 256 + 65536 * (w / 65536 % 256)
 and-even w =
@@ -16,8 +15,5 @@ and-even w =
     let l : bit_and (w % 65536) 255 ≡ w % 65536 % 256 = and_mask (w % 65536) 8 in
     ap (λ (n : ℕ). bit_and n 16711935) e ∙ b ∙ rw (h, l) (omega arith)
 
-returns : tie.Need-returns
+pub returns : goal.returns
 returns c = and-even _
-
-pub even-bytes-spec : {M : Type 1} → statement M
-even-bytes-spec = tie.close (tie.spec returns)
