@@ -1,7 +1,7 @@
 -- The loops over the elements of a value, for its length and for its bytes: what is left of it completes what is done. Assumes nothing.
 use Prim.Native.Nat.{ℕ, zero, suc, ◌+◌, ◌-◌, ◌*◌, ◌<◌, ◌≤◌}
 use mathlib.Core.Bool.{Bool, true}
-use mathlib.Core.Path.{◌≡◌, sym, ap, ◌∙◌}
+use mathlib.Core.Path.{◌≡◌, sym, ◌∙◌}
 use mathlib.Core.List.{List, [], ◌++◌, append_assoc, append-nil}
 use native.Mathlib.Nat.{sub-zero, add-zero, zero-add, mul-add, mul-one, not-suc-le-zero}
 use native.Mathlib.Omega.{arith}
