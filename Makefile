@@ -35,8 +35,8 @@ install: $(library) $(host) $(programs) ## library, header, programs and manual 
 uninstall: ## removes what install puts there
 	@scripts/install --remove
 
-clean: ## removes what was built: target/ and rust/target/
-	rm -rf target rust/target
+clean: ## removes what was built: target/, rust/target/ and the crates' out/
+	rm -rf target rust/target crates/*/out
 
 $(library): $(rattle)
 	@scripts/prove tunnel_c_c
