@@ -10,16 +10,16 @@ export PREFIX DESTDIR
 library = target/staticlib/libtunnel_c.a
 host = target/host/whapirohi
 programs = target/bin/van_box target/bin/plan_show
-rattle = crates.txt $(shell find crates -type f)
+rattle = crates.txt $(shell find crates -name out -prune -o -type f -print)
 rust = $(shell find rust -name target -prune -o -type f -print)
 
 help:
 	@sed -n 's/^\([a-z]*\):.*## /    make \1	/p' Makefile | expand -t 20
 
-test: ## all tests, from nothing: 35 to 45 minutes on two cores
+test: ## all tests; what an earlier run proved of the same files is not proved again
 	@scripts/test
 
-run: ## shows the drivers' plan, and runs the box on the sample trace
+run: $(programs) ## shows the drivers' plan, and runs the box on the sample trace
 	@scripts/run
 
 host: $(host) ## builds the static library and the program whapirohi
@@ -35,17 +35,14 @@ install: $(library) $(host) $(programs) ## library, header, programs and manual 
 uninstall: ## removes what install puts there
 	@scripts/install --remove
 
-clean: ## removes what was built: target/ and rust/target/
-	rm -rf target rust/target
+clean: ## removes what was built: target/, rust/target/ and the crates' out/
+	rm -rf target rust/target crates/*/out
 
 $(library): $(rattle)
-	@scripts/prove staticlib tunnel_c
+	@scripts/prove tunnel_c_c
 
-# rt goes by its stamp: it leaves a program as it is where nothing that it is made of has changed, even where it is missing
 $(programs): $(rattle)
-	@[ -e $@ ] || rm -f target/stamp/$(@F)
-	@scripts/prove check $(@F)
-	@touch $@
+	@scripts/prove $(@F)
 
 $(host): $(library) $(rust)
 	@env -u WHAPIROHI_LIB cargo build --release --offline --manifest-path rust/Cargo.toml -p whapirohi-box -p whapirohi-host-test

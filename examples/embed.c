@@ -1,7 +1,7 @@
 /*
  * A host in C: two ends of a tunnel, one packet sent short and received, and a stream in pieces. Every function of the header is called.
  *
- *   rt staticlib tunnel_c
+ *   scripts/prove tunnel_c_c
  *   cc -std=c99 -Wall -Wextra -Iinclude examples/embed.c target/staticlib/libtunnel_c.a -o target/embed-host && target/embed-host
  */
 #include "whapirohi.h"

@@ -17,7 +17,7 @@ fn main() {
     println!("cargo:rerun-if-changed={}", archive.display());
     if !archive.is_file() {
         eprintln!(
-            "\nThe static library {} is missing: run `rt staticlib tunnel_c` at the root of the repository, \
+            "\nThe static library {} is missing: run `scripts/prove tunnel_c_c` at the root of the repository, \
              or name its directory in WHAPIROHI_LIB.\n",
             archive.display()
         );

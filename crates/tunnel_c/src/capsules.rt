@@ -20,8 +20,7 @@ pub struct PlainCapsule {
 }
 
 // The capsule at a place of the buffer. A good list replaces the received one; requested entries go to the host's memory for them.
-#[unsafe(no_mangle)]
-pub extern "C" fn whapirohi_read_capsule(
+pub fn whapirohi_read_capsule(
     state: &mut [u64; STATE_WORDS],
     bytes: &[u8],
     at: usize,
@@ -58,8 +57,7 @@ fn plain_capsule(read: CapsuleRead) -> PlainCapsule
 }
 
 // A DATAGRAM with this value.
-#[unsafe(no_mangle)]
-pub extern "C" fn whapirohi_write_datagram(value: &[u8], out: &mut [u8]) -> PlainAnswer
+pub fn whapirohi_write_datagram(value: &[u8], out: &mut [u8]) -> PlainAnswer
     ensures { Plainly plain_answer (λ a. DatagramWritten value.now out.old a out.new) result }
 {
     let answer = capsule_write::write_datagram(value, out);
@@ -67,11 +65,7 @@ pub extern "C" fn whapirohi_write_datagram(value: &[u8], out: &mut [u8]) -> Plai
 }
 
 // An ADDRESS_REQUEST with these entries.
-#[unsafe(no_mangle)]
-pub extern "C" fn whapirohi_write_request(
-    list: &[u64; ADDRESS_WORDS],
-    out: &mut [u8],
-) -> PlainAnswer
+pub fn whapirohi_write_request(list: &[u64; ADDRESS_WORDS], out: &mut [u8]) -> PlainAnswer
     ensures { Plainly plain_answer (λ a. RequestWritten list.now out.old a out.new) result }
 {
     let answer = capsule_write::write_request(list, out);
@@ -79,8 +73,7 @@ pub extern "C" fn whapirohi_write_request(
 }
 
 // An ADDRESS_ASSIGN of the list, which becomes the given one.
-#[unsafe(no_mangle)]
-pub extern "C" fn whapirohi_write_assign(
+pub fn whapirohi_write_assign(
     state: &mut [u64; STATE_WORDS],
     list: &[u64; ADDRESS_WORDS],
     out: &mut [u8],
@@ -92,8 +85,7 @@ pub extern "C" fn whapirohi_write_assign(
 }
 
 // A ROUTE_ADVERTISEMENT of the list, which becomes the given one.
-#[unsafe(no_mangle)]
-pub extern "C" fn whapirohi_write_routes(
+pub fn whapirohi_write_routes(
     state: &mut [u64; STATE_WORDS],
     list: &[u64; ROUTE_WORDS],
     out: &mut [u8],

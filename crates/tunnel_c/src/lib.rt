@@ -1,6 +1,6 @@
 // The box for C and Rust hosts: functions over numbers, byte slices and arrays of words. The host owns the state, one array of words, and lends it;
-// `include/whapirohi.h` has the declarations and what a caller owes. Each function promises what the function of the same name below promises,
-// with the answer's enum as the number that it gives back and its values beside it.
+// `tunnel_c_c` exports the functions, and `include/whapirohi.h` has the declarations and what a caller owes. Each function promises what the function of the same
+// name below promises, with the answer's enum as the number that it gives back and its values beside it.
 #![tactic(auto)]
 
 mod capsules; // capsules.rt: capsules read and written against the lent state
@@ -14,6 +14,13 @@ ghost use Rattle.varint.specs.Numbers.{read_number};
 ghost use Rattle.tunnel_c.specs.Plain.{plain_answer, plain_number, NumberPlainly, state_bytes};
 
 use answer::Answer;
+pub use capsules::{
+    PlainCapsule, whapirohi_read_capsule, whapirohi_write_assign, whapirohi_write_datagram,
+    whapirohi_write_request, whapirohi_write_routes,
+};
+pub use packets::{whapirohi_receive, whapirohi_send};
+pub use pieces::{PlainPiece, whapirohi_feed, whapirohi_kept_size};
+pub use plans::{whapirohi_load_plan, whapirohi_write_plan};
 use state::STATE_WORDS;
 use varint::NumberRead;
 
@@ -38,24 +45,21 @@ pub struct PlainNumber {
 }
 
 // How many bytes the state takes.
-#[unsafe(no_mangle)]
-pub extern "C" fn whapirohi_state_size() -> u64
+pub fn whapirohi_state_size() -> u64
     ensures { result ≡ state_bytes }
 {
     (WORD_BYTES * STATE_WORDS) as u64
 }
 
 // The state at the start: no grants, no templates.
-#[unsafe(no_mangle)]
-pub extern "C" fn whapirohi_start(state: &mut [u64; STATE_WORDS])
+pub fn whapirohi_start(state: &mut [u64; STATE_WORDS])
     ensures { state.new ≡ replicate state_words 0 }
 {
     *state = [0u64; STATE_WORDS];
 }
 
 // A number read by itself.
-#[unsafe(no_mangle)]
-pub extern "C" fn whapirohi_read_number(bytes: &[u8]) -> PlainNumber
+pub fn whapirohi_read_number(bytes: &[u8]) -> PlainNumber
     ensures { result ≡ plain_number (read_number bytes.now) }
 {
     let read = varint::read(bytes);
@@ -74,8 +78,7 @@ pub extern "C" fn whapirohi_read_number(bytes: &[u8]) -> PlainNumber
 }
 
 // A number written by itself.
-#[unsafe(no_mangle)]
-pub extern "C" fn whapirohi_write_number(value: u64, out: &mut [u8]) -> PlainAnswer
+pub fn whapirohi_write_number(value: u64, out: &mut [u8]) -> PlainAnswer
     ensures { NumberPlainly value out.old result out.new }
 {
     let answer = varint::write(value, out);

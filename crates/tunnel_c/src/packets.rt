@@ -6,8 +6,7 @@ use super::{PlainAnswer, plain};
 use state::STATE_WORDS;
 
 // A packet from a tablet: the datagram goes to the front of out.
-#[unsafe(no_mangle)]
-pub extern "C" fn whapirohi_send<'a>(
+pub fn whapirohi_send<'a>(
     state: &'a [u64; STATE_WORDS],
     packet: &'a [u8],
     out: &mut [u8],
@@ -19,8 +18,7 @@ pub extern "C" fn whapirohi_send<'a>(
 }
 
 // A datagram from the link: the packet goes to the front of out.
-#[unsafe(no_mangle)]
-pub extern "C" fn whapirohi_receive<'a>(
+pub fn whapirohi_receive<'a>(
     state: &'a [u64; STATE_WORDS],
     datagram: &'a [u8],
     out: &mut [u8],

@@ -21,8 +21,7 @@ pub struct PlainPiece {
 }
 
 // How many bytes the memory for an unfinished capsule takes.
-#[unsafe(no_mangle)]
-pub extern "C" fn whapirohi_kept_size() -> u64
+pub fn whapirohi_kept_size() -> u64
     ensures { result ≡ kept_size }
 {
     KEPT_SIZE as u64
@@ -30,8 +29,7 @@ pub extern "C" fn whapirohi_kept_size() -> u64
 
 // Bytes of the stream, up to the end of one capsule. The value of a DATAGRAM goes to the front of out, requested entries to the host's memory for them, and
 // a good list replaces the received one.
-#[unsafe(no_mangle)]
-pub extern "C" fn whapirohi_feed(
+pub fn whapirohi_feed(
     state: &mut [u64; STATE_WORDS],
     kept: &mut [u8; KEPT_SIZE],
     bytes: &[u8],

@@ -12,8 +12,7 @@ use state::{STATE_WORDS, STORE_AT, TABLE_AT};
 use table::TABLE_WORDS;
 
 // A good plan file replaces the templates.
-#[unsafe(no_mangle)]
-pub extern "C" fn whapirohi_load_plan(state: &mut [u64; STATE_WORDS], file: &[u8]) -> u64
+pub fn whapirohi_load_plan(state: &mut [u64; STATE_WORDS], file: &[u8]) -> u64
     ensures { Plainly verdict_number (λ v. LoadsPlan file.now state.old v state.new) result }
 {
     let verdict = state::load_plan(state, file);
@@ -21,8 +20,7 @@ pub extern "C" fn whapirohi_load_plan(state: &mut [u64; STATE_WORDS], file: &[u8
 }
 
 // The file of the templates.
-#[unsafe(no_mangle)]
-pub extern "C" fn whapirohi_write_plan(state: &[u64; STATE_WORDS], out: &mut [u8]) -> PlainAnswer
+pub fn whapirohi_write_plan(state: &[u64; STATE_WORDS], out: &mut [u8]) -> PlainAnswer
     ensures { Plainly plain_answer (λ a. WritesPlan (part state.now table_at table_words) out.old a out.new) result }
 {
     let all = &state[..];
