@@ -9,7 +9,7 @@ give_addresses-requires c = Write.ready-room _ _ (sym c.ready-first.ensures ∙ 
 
 pub returns-in-Go-verdict : goal.returns-in-Go-verdict
 returns-in-Go-verdict c =
-    let a = c.before.before.before.before.before.before.before.before.before.before.before.before.before.before.before.before.args in
+    let a = c.args in
     let t = c.entries_into-verdict.ensures in
     let g = c.in-Go-verdict.is in
     Write.assign-written a.state.now a.value.now a.out.now (sym c.ready-first.ensures ∙ c.in-Go.is) (reads-says t g) (t.list g) c.give_addresses.ensures
