@@ -8,10 +8,10 @@ ghost use Rattle.options.specs.Help.{AsksHelp, dash};
 pub fn is_help(arg: &[u8]) -> bool
     ensures { AsksHelp arg.now result }
 {
-    if check::same(arg, b"--help") {
+    if arg == b"--help".as_slice() {
         return true;
     }
-    check::same(arg, b"-h")
+    arg == b"-h".as_slice()
 }
 
 // Whether an argument begins with `-`. A file of such a name is given as `./-NAME`.

@@ -4,3 +4,6 @@ pub mod Parts
 pub mod Sizes
 pub mod Answers
 pub mod Longer
+pub mod Digits
+pub mod TextLaws
+pub mod Examples

@@ -1,5 +1,4 @@
 pub mod Text
 pub mod TextLaws
 pub mod Lines
-pub mod Examples
 pub mod Names

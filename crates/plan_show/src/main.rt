@@ -11,56 +11,53 @@ mod text; // text.rt: text and numbers put at a place of an output
 ghost use Rattle.std.specs.Prelude.{◌≤◌, length};
 ghost use Rattle.plan_show.specs.Names.{name_room};
 
-use libc::{STDIN_FILENO, STDOUT_FILENO};
 use lines::{LINES_ROOM, plan_lines};
-use named::{NAME_ROOM, show_named};
+use named::{NAME_ROOM, read_on, show_named};
+use std::env::{Env, FillError};
+use std::io;
 
 // The most that is read of the input.
 pub(crate) const INPUT_ROOM: usize = 4096;
 
-fn main() {
-    let count = os::arg_count();
-    if count < 2 {
-        show_input();
-        return;
-    }
-    if count > 2 {
-        says::usage();
-        return;
+fn main(rt: HostRuntime) -> io::Result<()> {
+    if has_arg(&rt, 2) {
+        return says::usage(&rt.stderr());
     }
     let mut arg = [0u8; NAME_ROOM];
-    let n = os::arg(1, &mut arg);
-    if os::errno() != 0 {
-        says::too_long();
-        return;
+    match rt.arg(1, &mut arg) {
+        Ok(n) => take(&rt, &arg[..n]),
+        Err(FillError::TooLong) => says::too_long(&rt.stderr()),
+        Err(FillError::NotPresent) => show_input(&rt),
     }
-    take(&arg[..n]);
+}
+
+// Whether the program was given so many arguments; the name that it was called by does not count.
+fn has_arg(rt: &impl Env, i: usize) -> bool {
+    !matches!(rt.arg(i, &mut []), Err(FillError::NotPresent))
 }
 
 // What the one argument asks for.
-fn take(arg: &[u8])
+fn take(rt: &HostRuntime, arg: &[u8]) -> io::Result<()>
     requires { length arg.now ≤ name_room }
 {
     if options::is_help(arg) {
-        says::help();
-        return;
+        return says::help(rt);
     }
     if options::is_option(arg) {
-        says::usage();
-        return;
+        return says::usage(&rt.stderr());
     }
-    show_named(arg);
+    show_named(rt, arg)
 }
 
-fn show_input() {
+fn show_input(rt: &HostRuntime) -> io::Result<()> {
     let mut input = [0u8; INPUT_ROOM];
-    let n = io::read_full(STDIN_FILENO, &mut input);
-    show(&input[..n]);
+    let n = read_on(&mut rt.stdin(), &mut input, 0)?;
+    show(rt, &input[..n])
 }
 
 // Writes the lines of a plan file.
-pub(crate) fn show(file: &[u8]) {
+pub(crate) fn show(rt: &impl Print, file: &[u8]) -> io::Result<()> {
     let mut out = [0u8; LINES_ROOM];
     let size = plan_lines(file, &mut out);
-    io::write_all(STDOUT_FILENO, &out[..size]);
+    rt.write_all(&out[..size])
 }

@@ -1,9 +1,8 @@
 // What the program says of itself.
-use libc::{STDERR_FILENO, STDOUT_FILENO};
+use std::io;
 
-pub(crate) fn help() {
-    io::write_all(
-        STDOUT_FILENO,
+pub(crate) fn help(out: &impl Print) -> io::Result<()> {
+    out.write_all(
         b"usage: plan_show [FILE]
 
 Reads a plan file, from FILE or from standard input, and writes what is in it:
@@ -19,19 +18,13 @@ A file that cannot be read is named on standard error, and no line is written.
 There is no exit status: a script looks at the first word, plan or refused.
 README.md says more, under \"A plan in words\".
 ",
-    );
+    )
 }
 
-pub(crate) fn usage() {
-    io::write_all(
-        STDERR_FILENO,
-        b"usage: plan_show [FILE], or plan_show --help\n",
-    );
+pub(crate) fn usage(err: &impl Print) -> io::Result<()> {
+    err.write_all(b"usage: plan_show [FILE], or plan_show --help\n")
 }
 
-pub(crate) fn too_long() {
-    io::write_all(
-        STDERR_FILENO,
-        b"plan_show: the argument has more than 4096 bytes\n",
-    );
+pub(crate) fn too_long(err: &impl Print) -> io::Result<()> {
+    err.write_all(b"plan_show: the argument has more than 4096 bytes\n")
 }

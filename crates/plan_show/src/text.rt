@@ -1,7 +1,7 @@
 // Text and decimal numbers put at a place of an output, which has room: each function hands back the place behind them.
 ghost use Rattle.std.specs.Prelude.{◌+◌, ◌≤◌, length};
 ghost use Rattle.output.specs.Places.{Put};
-ghost use Rattle.plan_show.specs.Text.{decimal};
+ghost use Rattle.plan_show.specs.Text.{digits_of, decimal};
 ghost use Rattle.plan_show.specs.Lines.{labelled, last_labelled};
 
 // A number of 64 bits has at most 20 digits.
@@ -11,9 +11,22 @@ pub(crate) fn put_decimal(out: &mut [u8], at: usize, n: u64) -> usize
     requires { at + length (decimal n) ≤ length out.old }
     ensures { Put (decimal n) at out.old result out.new }
 {
-    let mut digits = [0u8; MAX_DIGITS];
-    let k = io::decimal(n, &mut digits);
-    output::put_bytes(out, at, &digits[..k])
+    put_digits(out, at, n, MAX_DIGITS)
+}
+
+// The last digits of n, at most so many: those in front of the last one, where there are any, and then that one.
+fn put_digits(out: &mut [u8], at: usize, n: u64, most: usize) -> usize
+    requires { at + length (digits_of most n) ≤ length out.old }
+    ensures { Put (digits_of most n) at out.old result out.new }
+{
+    if most == 0 {
+        return at;
+    }
+    let mut next = at;
+    if n >= 10 {
+        next = put_digits(out, at, n / 10, most - 1);
+    }
+    output::put_byte(out, next, (48 + n % 10) as u8)
 }
 
 // A label and a number behind it.

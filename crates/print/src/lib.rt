@@ -1,47 +1,46 @@
 // What the programs write to standard output: text, numbers, bytes in hex, and answers. No contract can say what is written: the functions are
-// proved safe and ending, and what a program writes is compared with its file `stdout`.
+// proved safe and ending, and what a program writes is compared with its file `stdout`. Each ends with the first write that fails, and hands on its error.
 #![tactic(auto)]
 
 use answer::{Answer, Refusal};
-use libc::STDOUT_FILENO;
+use std::io;
 
-pub fn text(bytes: &[u8]) {
-    io::write_all(STDOUT_FILENO, bytes);
+pub fn text(rt: &impl Print, bytes: &[u8]) -> io::Result<()> {
+    rt.write_all(bytes)
 }
 
-pub fn decimal(n: u64) {
-    io::print_decimal(STDOUT_FILENO, n);
+pub fn decimal(rt: &impl Print, n: u64) -> io::Result<()> {
+    rt.print(n)
 }
 
 // Two digits a byte.
-pub fn hex(bytes: &[u8]) {
+pub fn hex(rt: &impl Print, bytes: &[u8]) -> io::Result<()> {
     let mut i = 0;
     while i < bytes.len() {
-        io::print_hex(STDOUT_FILENO, bytes[i] as u64, 2);
+        let byte = bytes[i];
+        print!(rt; "{byte:02x}")?;
         i += 1;
     }
+    Ok(())
 }
 
 // The first n bytes in hex.
-pub fn front(bytes: &[u8], n: usize) {
+pub fn front(rt: &impl Print, bytes: &[u8], n: usize) -> io::Result<()> {
     if n <= bytes.len() {
-        hex(&bytes[..n]);
+        hex(rt, &bytes[..n])?;
     }
+    Ok(())
 }
 
-pub fn refused(why: Refusal) {
-    text(b"refused ");
-    decimal(why.number() as u64);
+pub fn refused(rt: &impl Print, why: Refusal) -> io::Result<()> {
+    text(rt, b"refused ")?;
+    decimal(rt, why.number() as u64)
 }
 
 // The bytes that were written to the output, or the refusal.
-pub fn written(a: Answer, out: &[u8]) {
+pub fn written(rt: &impl Print, a: Answer, out: &[u8]) -> io::Result<()> {
     match a {
-        Answer::Done(n) => {
-            front(out, n);
-        }
-        Answer::Refused(why) => {
-            refused(why);
-        }
+        Answer::Done(n) => front(rt, out, n),
+        Answer::Refused(why) => refused(rt, why),
     }
 }

@@ -1,0 +1,26 @@
+-- By the verdict: what was read is sound and means its file (`read-go`).
+use mathlib.Core.Path.{ap, ◌∙◌}
+use native.Mathlib.Omega.{arith}
+use Rattle.octets.specs.Big.{Bytes}
+use Rattle.output.proofs.Placing.{put_as}
+use Rattle.plan_show.specs.Text.{ascii}
+use Rattle.plan_show.specs.Lines.{last_labelled}
+use Rattle.plan_show.proofs.Sizes.{refused-most}
+use Rattle.plan_show.proofs.Answers.{read-go, read-stop}
+use Rattle.plan_show.proofs.lines.plan_lines.Goals as goal
+
+pub put_table-requires : goal.put_table-requires
+put_table-requires c =
+    let b : Bytes c.args.file.now = λ i. omega (arith, c.type_inv.file i) in
+    (read-go c.args.file.now c.read_plan-verdict.ensures b c.in-Go.is).sound
+
+pub put_last-requires : goal.put_last-requires
+put_last-requires c = omega (arith, refused-most c.number.result (omega arith))
+
+pub returns-in-Go : goal.returns-in-Go
+returns-in-Go c =
+    let b : Bytes c.args.file.now = λ i. omega (arith, c.type_inv.file i) in
+    put_as (read-go c.args.file.now c.read_plan-verdict.ensures b c.in-Go.is).lines c.put_table.ensures
+
+pub returns-in-Stop : goal.returns-in-Stop
+returns-in-Stop c = put_as (ap (last_labelled (ascii "refused ")) c.number.ensures ∙ read-stop c.args.file.now c.read_plan-verdict.ensures c.in-Stop.is) c.put_last.ensures

@@ -1,0 +1,5 @@
+-- One digit less may be put at each call.
+use Rattle.plan_show.proofs.text.+put_digits.Given as goal
+
+abbrev pub decreases-put_digits : goal.decreases-put_digits
+decreases-put_digits l = l.most
