@@ -1,0 +1,31 @@
+-- One law a way out; a memory that is full holds no open capsule, since one keeps fewer bytes (`judged-full`). Assumes nothing.
+use native.Mathlib.Omega.{arith}
+use mathlib.Core.Path.{sym}
+use lib.Seq.{length-take-le}
+use Rattle.octets.specs.Big.{Bytes}
+use Rattle.stream.proofs.StoreCases as Store
+use Rattle.stream.proofs.store.store_sound.Goals as goal
+
+pub returns-then-number-eq1 : goal.returns-then-number-eq1
+returns-then-number-eq1 c = Store.judged-one _ _ c.if-number-eq1.true
+
+pub returns-then-number-gt7 : goal.returns-then-number-gt7
+returns-then-number-gt7 c = Store.judged-over _ _ c.if-number-gt7.true
+
+pub returns-then-skip-ge-NUMBER_LIMIT : goal.returns-then-skip-ge-NUMBER_LIMIT
+returns-then-skip-ge-NUMBER_LIMIT c = Store.judged_far _ _ c.requires.1 c.if-number-eq1.false c.if-number-gt7.false c.if-skip-gt0.true c.if-skip-ge-NUMBER_LIMIT.true
+
+pub returns-then-skip-gt0 : goal.returns-then-skip-gt0
+returns-then-skip-gt0 c = Store.judged-skip _ _ c.requires.1 c.if-number-eq1.false c.if-number-gt7.false c.if-skip-gt0.true c.if-skip-ge-NUMBER_LIMIT.false
+
+pub returns-then-count : goal.returns-then-count
+returns-then-count c = let h : Bytes c.args.kept.now = λ i. omega (arith, c.type_inv.kept i) in Store.judged-full _ _ c.requires.1 c.if-number-eq1.false c.if-number-gt7.false c.if-skip-gt0.false h c.if-count.true
+
+pub slice_bounds-is_open-end : goal.slice_bounds-is_open-end
+slice_bounds-is_open-end c = sym (length-take-le _ _ (omega (arith, c.before.before.before.before.before.before.before.before.before.before.requires.1, c.before.if5.false)))
+
+pub is_open-requires : goal.is_open-requires
+is_open-requires c = c.before.before.before.before.before.before.before.before.before.before.requires.2 c.before.if5.false
+
+pub returns : goal.returns
+returns c = Store.judged_open _ _ c.before.before.before.before.before.before.before.before.before.before.before.requires.1 c.before.before.before.before.before.if1.false c.before.before.before.before.if2.false c.before.before.before.if3.false c.before.before.if5.false c.is_open.ensures
