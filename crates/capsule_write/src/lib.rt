@@ -87,7 +87,7 @@ pub fn write_routes(list: &[u64; ROUTE_WORDS], out: &mut [u8]) -> Answer
 // The two kinds of capsule with address entries.
 fn write_addresses(kind: u64, request: bool, w: &[u64], out: &mut [u8]) -> Answer
     requires address_words_in_bounds { address_words ≤ length w.now }
-    requires kind_list_room { kind ≤ 3 }
+    requires kind_bound { kind ≤ 3 }
     ensures { EntriesWritten kind request w.now out.old result out.new }
 {
     if out.len() < CAPSULE_ROOM {

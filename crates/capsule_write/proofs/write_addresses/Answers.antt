@@ -17,7 +17,7 @@ pub put_addresses-requires : goal.put_addresses-requires
 put_addresses-requires c =
     let a = c.args in
     let go = entries-go a.request a.w.now (sym c.entries_verdict-verdict.ensures ∙ c.in-Go.is) in
-    record { address_words_in_bounds = search rules; kind_list_room = (c.requires.kind_list_room, go.sound, omega arith) }
+    record { address_words_in_bounds = search rules; kind_list_room = (c.requires.kind_bound, go.sound, omega arith) }
 
 pub returns-in-Go : goal.returns-in-Go
 returns-in-Go c =
