@@ -15,7 +15,7 @@ use Rattle.inet.proofs.TransportLaws.{lowered-seed}
 use Rattle.table.specs.Limits.{max_templates, max_segments, static_limit}
 use Rattle.table.specs.Sound.{UsableTemplate}
 use Rattle.table.specs.Templates.{sum_at}
-use Rattle.table.specs.Words.{segment_at, words_at, template_of, templates_of, head_of, count_in, template_words}
+use Rattle.table.specs.Words.{words_at, template_of, templates_of, head_of, count_in, template_words}
 use Rattle.table.specs.declared.Head.{Head}
 use Rattle.table.specs.declared.Segment.{Segment}
 use Rattle.table.proofs.Judging.{words-at}
@@ -23,7 +23,7 @@ use Rattle.template.specs.declared.Fit.{Fit}
 use Rattle.template.specs.declared.Fit.TheVariants.{None}
 use Rattle.template.specs.Pieces.{fits_pieces}
 use Rattle.template.specs.Fits.{full, fits_sum, fits, first_fit}
-use Rattle.template.specs.Usable.{SumPlace, Fronted, pieces_of, holds_at, seed_of, ChosenAt, Chosen}
+use Rattle.template.specs.Usable.{SumPlace, Fronted, pieces_of, seed_of, ChosenAt, Chosen}
 use Rattle.table.proofs.InTurn.{templates_from, templates-all}
 use Rattle.template.proofs.Steps.{pieces_from, pieces-all, fits-short, fits-long, fits-done, holds_same, holds-other, holds-done, holds_then, unfit_pieces, fit-plain, fit-sum, sum-place, words_from, words_length, words-usable, find_next, find_here, find_done}
 use Rattle.template.proofs.CompletionLaws.{fits_sum-short, fits_sum-lowered}
@@ -311,8 +311,8 @@ returns-else-not-sum_fits c =
     let t = words_from c.args.table.now c.templates.next in
     let h = c.judged_head-head.result in
     found c.args.table.now (lowered c.args.packet.now) c.templates.next _ c.templates-test.true c.count_of-count.ensures c.templates.invariant.2
-        (summed t c.args.packet.now h c.judged_head-head.ensures (place g.Then-head) (compared g.After-segments) c.if-head.true c.sum_fits.ensures c.if-not-sum_fits.false)
-        (seed-sum t h c.judged_head-head.ensures c.args.packet.now c.if-head.true c.seed-first.ensures.0)
+    (summed t c.args.packet.now h c.judged_head-head.ensures (place g.Then-head) (compared g.After-segments) c.if-head.true c.sum_fits.ensures c.if-not-sum_fits.false)
+    (seed-sum t h c.judged_head-head.ensures c.args.packet.now c.if-head.true c.seed-first.ensures.0)
 
 pub returns-else-head : goal.returns-else-head
 returns-else-head c =
@@ -320,5 +320,5 @@ returns-else-head c =
     let p = lowered c.args.packet.now in
     let h = c.judged_head-head.result in
     found c.args.table.now p c.templates.next _ c.templates-test.true c.count_of-count.ensures c.templates.invariant.2
-        (plain-read t h c.judged_head-head.ensures p (compared (goal.at.returns-else-head c).After-segments) c.if-head.false)
-        (seed-plain t h c.judged_head-head.ensures p c.if-head.false)
+    (plain-read t h c.judged_head-head.ensures p (compared (goal.at.returns-else-head c).After-segments) c.if-head.false)
+    (seed-plain t h c.judged_head-head.ensures p c.if-head.false)
