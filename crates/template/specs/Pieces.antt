@@ -1,5 +1,5 @@
 -- A packet outside the pieces of a template, and the packet again.
-use Rattle.std.specs.Prelude.{ℕ, ◌+◌, ◌-◌, Bool, true, false, ◌&&◌, List, [], ◌∷◌, ◌++◌, leb, eqb, length, take, drop}
+use Rattle.std.specs.Prelude.{ℕ, ◌-◌, Bool, true, false, ◌&&◌, List, [], ◌∷◌, ◌++◌, leb, eqb, length, take, drop}
 use Rattle.table.specs.Templates.{Piece, piece_end}
 
 -- p begins with b
