@@ -1,5 +1,4 @@
 -- The invariant: what is left to put completes the templates (`Putting`).
-use Prim.Native.Nat.{◌-◌}
 use mathlib.Core.Path.{ap, sym}
 use native.Mathlib.Omega.{arith}
 use Rattle.output.proofs.Placing.{putting_none, putting_more, putting_done}

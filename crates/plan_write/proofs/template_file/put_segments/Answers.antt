@@ -1,5 +1,4 @@
 -- The invariant: what is left to put completes the segments (`Putting`).
-use Prim.Native.Nat.{◌-◌}
 use native.Mathlib.Omega.{arith}
 use Rattle.output.proofs.Placing.{putting_none, putting_more, putting_done}
 use Rattle.plan_write.proofs.Parts.{pieces-start, pieces_more, piece_room, pieces_none, template-count, segment_within}

@@ -16,13 +16,13 @@ pub slice_bounds-hand_value-end : goal.slice_bounds-hand_value-end
 slice_bounds-hand_value-end c = let x = c.requires.0 in sym (length-take-le _ _ (omega (arith, x.store.within, x.store.room)))
 
 pub slice_bounds-hand_value-end-in-Known : goal.slice_bounds-hand_value-end-in-Known
-slice_bounds-hand_value-end-in-Known c = sym (length-take-le _ _ (ends_there c.before.before.before.before.before.before.before.before.before.requires.0 c.before.before.before.head.given.1))
+slice_bounds-hand_value-end-in-Known c = sym (length-take-le _ _ (ends_there c.requires.0 c.in-Known.is))
 
 pub hand_value-size-requires : goal.hand_value-size-requires
-hand_value-size-requires c = let s = c.before.before.before.before.before.before.before.before.before.before in ends-fits s.requires.0 c.before.before.before.before.head.given.1 _ refl s.args.out.now s.requires.1
+hand_value-size-requires c = ends-fits c.requires.0 c.in-Known.is _ refl c.args.out.now c.requires.1
 
 pub returns-in-Known : goal.returns-in-Known
-returns-in-Known c = ends-datagram c.before.before.before.before.before.before.before.before.before.before.before.before.before.before.before.requires.0 c.before.before.before.before.before.before.before.before.before.head.given.1 _ refl c.hand_value-size.ensures c.hand_out.ensures
+returns-in-Known c = ends-datagram c.requires.0 c.in-Known.is _ refl c.hand_value-size.ensures c.hand_out.ensures
 
 pub returns-in-Cut : goal.returns-in-Cut
 returns-in-Cut c = absurd (cut-other c.requires.0 c.in-Cut.is)

@@ -37,37 +37,37 @@ pub returns-then-bytes-need : goal.returns-then-bytes-need
 returns-then-bytes-need c = Code.goes-lacks c.requires.0 c.args.bytes.now c.head_over-h.ensures c.in-Known.is c.if-kind-gt3.false c.if-length.false c.if-bytes-need.true c.keep.ensures
 
 pub slice_bounds-hand_value-end-then-kind-eq0 : goal.slice_bounds-hand_value-end-then-kind-eq0
-slice_bounds-hand_value-end-then-kind-eq0 c = sym (length-take-le _ _ (omega (arith, c.before.before.before.before.before.before.before.before.before.before.before.before.before.before.requires.0.within, c.before.before.before.before.before.before.before.before.before.before.before.before.before.before.requires.0.room)))
+slice_bounds-hand_value-end-then-kind-eq0 c = sym (length-take-le _ _ (omega (arith, c.requires.0.within, c.requires.0.room)))
 
 pub slice_bounds-hand_value-end-then-kind-eq0-2 : goal.slice_bounds-hand_value-end-then-kind-eq0-2
-slice_bounds-hand_value-end-then-kind-eq0-2 c = sym (length-take-le _ _ (omega (arith, c.before.before.before.if3.false)))
+slice_bounds-hand_value-end-then-kind-eq0-2 c = sym (length-take-le _ _ (omega (arith, c.if-bytes-need.false)))
 
 pub hand_value-n-requires : goal.hand_value-n-requires
-hand_value-n-requires c = Code.value-fits c.before.before.before.before.before.before.before.before.before.before.before.before.before.before.before.before.requires.0 c.before.before.before.before.before.before.before.before.before.before.before.before.before.before.before.before.args.bytes.now c.before.before.before.before.before.before.before.before.before.before.head_over.ensures c.before.before.before.before.before.before.before.before.h.given.1 _ refl c.before.before.before.before.if3.false c.before.before.before.before.before.if2.false c.before.before.before.before.before.before.before.before.before.before.before.before.before.before.before.before.args.out.now c.before.before.before.before.before.before.before.before.before.before.before.before.before.before.before.before.requires.1
+hand_value-n-requires c = Code.value-fits c.requires.0 c.args.bytes.now c.head_over-h.ensures c.in-Known.is _ refl c.if-bytes-need.false c.if-length.false c.args.out.now c.requires.1
 
 pub returns-then-kind-eq0 : goal.returns-then-kind-eq0
-returns-then-kind-eq0 c = Code.goes-datagram c.before.before.before.before.before.before.before.before.before.before.before.before.before.before.before.before.before.before.before.before.before.requires.0 c.before.before.before.before.before.before.before.before.before.before.before.before.before.before.before.before.before.before.before.before.before.args.bytes.now c.before.before.before.before.before.before.before.before.before.before.before.before.before.before.before.head_over.ensures c.before.before.before.before.before.before.before.before.before.before.before.before.before.h.given.1 _ refl c.before.before.before.before.before.before.before.before.before.if3.false c.before.before.before.before.before.before.before.before.before.before.if2.false c.before.before.before.before.before.before.before.before.if4.true c.hand_value-n.ensures c.hand_out.ensures
+returns-then-kind-eq0 c = Code.goes-datagram c.requires.0 c.args.bytes.now c.head_over-h.ensures c.in-Known.is _ refl c.if-bytes-need.false c.if-length.false c.if-kind-eq0.true c.hand_value-n.ensures c.hand_out.ensures
 
 pub slice_bounds-take_capsule-end : goal.slice_bounds-take_capsule-end
-slice_bounds-take_capsule-end c = sym (length-take-le _ _ (omega (arith, c.before.before.before.before.if3.false)))
+slice_bounds-take_capsule-end c = sym (length-take-le _ _ (omega (arith, c.if-bytes-need.false)))
 
 pub returns-then-count-eq0 : goal.returns-then-count-eq0
-returns-then-count-eq0 c = let s = c.before.before.before.before.before.before.before.before.before.before.before.before.before.before.before.before.before.before.before.before in Code.goes-read s.requires.0 s.args.bytes.now c.before.before.before.before.before.before.before.before.before.before.before.before.before.before.head_over.ensures c.before.before.before.before.before.before.before.before.before.before.before.before.h.given.1 _ refl c.before.before.before.before.before.before.before.before.if3.false c.before.before.before.before.before.before.before.before.before.if2.false c.before.before.before.before.before.before.before.if4.false c.before.before.before.before.before.before.before.before.before.before.if1.false (Code.none_kept s.args.kept.now _ c.before.before.before.before.before.before.if5.true) c.take_capsule-read.ensures c.settle.ensures
+returns-then-count-eq0 c = Code.goes-read c.requires.0 c.args.bytes.now c.head_over-h.ensures c.in-Known.is _ refl c.if-bytes-need.false c.if-length.false c.if-kind-eq0.false c.if-kind-gt3.false (Code.none_kept c.args.kept.now _ c.if-count-eq0.true) c.take_capsule-read.ensures c.settle.ensures
 
 pub slice_bounds-take_cut-end-in-Known : goal.slice_bounds-take_cut-end-in-Known
-slice_bounds-take_cut-end-in-Known c = sym (length-take-le _ _ (omega (arith, c.before.before.before.before.before.before.before.before.before.before.before.before.before.before.before.before.requires.0.within, c.before.before.before.before.before.before.before.before.before.before.before.before.before.before.before.before.requires.0.room)))
+slice_bounds-take_cut-end-in-Known c = sym (length-take-le _ _ (omega (arith, c.requires.0.within, c.requires.0.room)))
 
 pub slice_bounds-take_cut-end-in-Known-2 : goal.slice_bounds-take_cut-end-in-Known-2
-slice_bounds-take_cut-end-in-Known-2 c = sym (length-take-le _ _ (omega (arith, c.before.before.before.before.before.if3.false)))
+slice_bounds-take_cut-end-in-Known-2 c = sym (length-take-le _ _ (omega (arith, c.if-bytes-need.false)))
 
 pub take_cut-read-requires : goal.take_cut-read-requires
-take_cut-read-requires c = let s = c.before.before.before.before.before.before.before.before.before.before.before.before.before.before.before.before.before.before in Code.whole-fits s.requires.0 s.args.bytes.now c.before.before.before.before.before.before.before.before.before.before.before.before.head_over.ensures c.before.before.before.before.before.before.before.before.before.before.h.given.1 _ refl c.before.before.before.before.before.before.if3.false c.before.before.before.before.before.before.before.if2.false
+take_cut-read-requires c = Code.whole-fits c.requires.0 c.args.bytes.now c.head_over-h.ensures c.in-Known.is _ refl c.if-bytes-need.false c.if-length.false
 
 pub keep-requires-in-Cut : goal.keep-requires-in-Cut
 keep-requires-in-Cut c = (c.requires.0.live, Code.cut_fits c.requires.0 c.args.bytes.now c.head_over-h.ensures c.in-Cut.is)
 
 pub returns-else-count-eq0 : goal.returns-else-count-eq0
-returns-else-count-eq0 c = let s = c.before.before.before.before.before.before.before.before.before.before.before.before.before.before.before.before.before.before.before.before.before in Code.goes-read s.requires.0 s.args.bytes.now c.before.before.before.before.before.before.before.before.before.before.before.before.before.before.before.head_over.ensures c.before.before.before.before.before.before.before.before.before.before.before.before.before.h.given.1 _ refl c.before.before.before.before.before.before.before.before.before.if3.false c.before.before.before.before.before.before.before.before.before.before.if2.false c.before.before.before.before.before.before.before.before.if4.false c.before.before.before.before.before.before.before.before.before.before.before.if1.false refl c.take_cut-read.ensures c.settle-in-Known.ensures
+returns-else-count-eq0 c = Code.goes-read c.requires.0 c.args.bytes.now c.head_over-h.ensures c.in-Known.is _ refl c.if-bytes-need.false c.if-length.false c.if-kind-eq0.false c.if-kind-gt3.false refl c.take_cut-read.ensures c.settle-in-Known.ensures
 
 pub returns-in-Cut : goal.returns-in-Cut
 returns-in-Cut c = Code.cut_keeps c.requires.0 c.args.bytes.now c.head_over-h.ensures c.in-Cut.is c.keep-in-Cut.ensures

@@ -22,10 +22,10 @@ pub returns-then-count : goal.returns-then-count
 returns-then-count c = let h : Bytes c.args.kept.now = λ i. omega (arith, c.type_inv.kept i) in Store.judged-full _ _ c.requires.1 c.if-number-eq1.false c.if-number-gt7.false c.if-skip-gt0.false h c.if-count.true
 
 pub slice_bounds-is_open-end : goal.slice_bounds-is_open-end
-slice_bounds-is_open-end c = sym (length-take-le _ _ (omega (arith, c.before.before.before.before.before.before.before.before.before.before.requires.1, c.before.if5.false)))
+slice_bounds-is_open-end c = sym (length-take-le _ _ (omega (arith, c.requires.1, c.if-count.false)))
 
 pub is_open-requires : goal.is_open-requires
-is_open-requires c = c.before.before.before.before.before.before.before.before.before.before.requires.2 c.before.if5.false
+is_open-requires c = c.requires.2 c.if-count.false
 
 pub returns : goal.returns
-returns c = Store.judged_open _ _ c.before.before.before.before.before.before.before.before.before.before.before.requires.1 c.before.before.before.before.before.if1.false c.before.before.before.before.if2.false c.before.before.before.if3.false c.before.before.if5.false c.is_open.ensures
+returns c = Store.judged_open _ _ c.requires.1 c.if-number-eq1.false c.if-number-gt7.false c.if-skip-gt0.false c.if-count.false c.is_open.ensures
