@@ -169,8 +169,8 @@ pub calls_split : {w held left : List ℕ} (ps qs : List (List ℕ)) {handed : L
     → Calls w held left (ps ++ qs) handed later holds rest → Split w held left ps qs handed later holds rest
 calls_split {w} {held} {left} [] qs {handed} c =
     record { first = []; second = handed; mid = w; now = held; over = left; front = no_call; behind = c; joined = refl }
-calls_split (p ∷ ps) qs (call {r = r} {mid} {after = after} {list} room x next) =
-    let n = calls_split ps qs next in
+calls_split {w = w} {held = held} {left = left} (p ∷ ps) qs {later = later} {holds = holds} {rest = rest} (call {r = r} {mid = mid} {now = now} {after = after} {list = list} room x next) =
+    let n = calls_split {w = mid} {held = now} ps qs next in
     record {
       first = seen r.call after list (state_in mid) ++ n.first;
       second = n.second;
