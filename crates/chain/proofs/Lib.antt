@@ -1,3 +1,4 @@
 pub mod Table
 pub mod ClassTable
+pub mod ClassRule
 pub mod ChainLaws

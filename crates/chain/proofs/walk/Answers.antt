@@ -1,10 +1,11 @@
 -- What is left of the chain is all of it (`Walking`), and each header takes 8 bytes at least. Assumes nothing.
 use mathlib.Core.Path.{◌≡◌, refl, sym, ap, ◌∙◌}
 use mathlib.Core.List.{List, ◌++◌}
-use Prim.Native.Nat.{ℕ, ◌+◌, ◌-◌, ◌*◌, ◌≤◌, ◌<◌}
+use Prim.Native.Nat.{ℕ, ◌+◌, ◌*◌, ◌≤◌, ◌<◌}
 use native.Mathlib.Omega.{arith}
 use lib.ListN.{length, get_or, drop, length-append}
-use Rattle.chain.proofs.ClassTable.{class_table, class_read}
+use Rattle.chain.proofs.ClassTable.{class_table}
+use Rattle.chain.proofs.ClassRule.{class_read}
 use Rattle.chain.proofs.ChainLaws.{size-least, walk-starts, walk-plain, walk-past, walk-later, walk-next, walk-counted}
 use borrow.Author.Rules.{rules}
 use Rattle.chain.proofs.walk.Goals as goal

@@ -2,7 +2,7 @@
 use mathlib.Core.Path.{refl}
 use native.Mathlib.Omega.{arith}
 use Rattle.chain.specs.Chain.{class_of}
-use Rattle.chain.proofs.ClassTable.{extension, no-extension}
+use Rattle.chain.proofs.ClassRule.{extension, no-extension}
 use Rattle.chain.proofs.class.is_extension.Goals as goal
 
 pub returns-then-number-eq0 : goal.returns-then-number-eq0
