@@ -7,14 +7,22 @@ use Rattle.policy.specs.Granted.{side_words}
 use Rattle.state.specs.State.{received_at, given_at}
 use Rattle.tunnel.proofs.JudgingLaws.{first_at, second_at, picked, first-within, second-within, words-enough, first-sound, second-sound, granted-by}
 use Rattle.tunnel.proofs.judging.granted.Goals as goal
-use Rattle.tunnel.proofs.judging.granted.Goals.{Joined-sending, Joined-sending-2}
+use Rattle.tunnel.proofs.judging.granted.Goals.{Joined-sending, Joined-sending-2, then-sending, else-sending, then-sending-2, else-sending-2}
 
 -- the two places, by the way
 first-at : (c : Joined-sending) → c.if-sending.first ≡ first_at c.args.sending
-first-at c = ⊎_elim (λ w. picked received_at given_at w.0.taken w.1) (λ w. picked received_at given_at w.0.left w.1) c.if-sending.branch-raw
+first-at c =
+    elim c.if-sending.branch [
+      then-sending w ↦ picked received_at given_at w.if-sending.true w.first-is
+    | else-sending w ↦ picked received_at given_at w.if-sending.false w.first-is
+    ]
 
 second_at_lem : (c : Joined-sending-2) → c.if-sending-2.second ≡ second_at c.args.sending
-second_at_lem c = ⊎_elim (λ w. picked given_at received_at w.0.taken w.1) (λ w. picked given_at received_at w.0.left w.1) c.if-sending-2.branch-raw
+second_at_lem c =
+    elim c.if-sending-2.branch [
+      then-sending-2 w ↦ picked given_at received_at w.if-sending-2.true w.second-is
+    | else-sending-2 w ↦ picked given_at received_at w.if-sending-2.false w.second-is
+    ]
 
 first-low : (c : Joined-sending) → c.if-sending.first ≤ side_words
 first-low c = first-within c.args.sending (first-at c)

@@ -13,7 +13,7 @@ pub returns-then-room-lt-RECEIVE_ROOM : goal.returns-then-room-lt-RECEIVE_ROOM
 returns-then-room-lt-RECEIVE_ROOM c = Steps.state-room _ c.args.room (omega (arith, c.if-room-lt-RECEIVE_ROOM.true))
 
 pub returns-then-not-state_sound : goal.returns-then-not-state_sound
-returns-then-not-state_sound c = Steps.state-broken _ _ (roomy (goal.at.returns-then-not-state_sound c).Else-room-lt-RECEIVE_ROOM) c.state_sound.ensures (c.if-not-state_sound.true)
+returns-then-not-state_sound c = Steps.state-broken _ _ (roomy (goal.at.returns-then-not-state_sound c).Else-room-lt-RECEIVE_ROOM) c.state_sound.ensures c.if-not-state_sound.true
 
 pub returns : goal.returns
-returns c = Steps.state_sound _ _ (roomy (goal.at.returns c).Else-room-lt-RECEIVE_ROOM) c.state_sound.ensures (c.if-not-state_sound.false)
+returns c = Steps.state-sound _ _ (roomy (goal.at.returns c).Else-room-lt-RECEIVE_ROOM) c.state_sound.ensures c.if-not-state_sound.false

@@ -10,7 +10,8 @@ use Rattle.tunnel.proofs.receiving.take_datagram.Goals as goal
 use Rattle.tunnel.proofs.receiving.take_datagram.Goals.{In-Whole}
 
 -- the Context ID is all there
-whole : (c : In-Whole) → read_number c.args.datagram.now ≡ Whole c.in-Whole.value c.in-Whole.size
+whole : (c : In-Whole)
+    → read_number c.args.datagram.now ≡ Whole c.in-Whole.value c.in-Whole.size
 whole c = sym c.read-read.ensures.reading ∙ c.in-Whole.is
 
 pub slice_bounds-body-count : goal.slice_bounds-body-count

@@ -20,4 +20,4 @@ take_in-requires c =
     record { state_words_in_bounds = search rules; takable = record { sound = c.requires.receivable.sound; room = omega (arith, within (goal.at.take_in-requires c).Else-body-gt-MAX_PACKET, c.requires.receivable.room) } }
 
 pub returns : goal.returns
-returns c = Steps.takes_as _ (Opening.within_limit c.args.body.now (within (goal.at.returns c).Else-body-gt-MAX_PACKET)) c.take_in.ensures
+returns c = Steps.takes_as _ (Opening.within-limit c.args.body.now (within (goal.at.returns c).Else-body-gt-MAX_PACKET)) c.take_in.ensures

@@ -1,7 +1,6 @@
 -- The search found the template with the Context ID, or there is none. Assumes nothing.
-use Prim.Native.Nat.{ℕ, ◌<◌}
+use Prim.Native.Nat.{◌<◌}
 use mathlib.Core.Path.{ap}
-use mathlib.Core.List.{List}
 use native.Mathlib.Omega.{arith}
 use Rattle.octets.specs.Parts.{part}
 use Rattle.table.specs.Limits.{max_templates}
@@ -19,22 +18,11 @@ use borrow.Author.Rules.{rules}
 use Rattle.tunnel.proofs.receiving.take_short.Goals as goal
 use Rattle.tunnel.proofs.receiving.take_short.Goals.{In-At, Start}
 
--- the table of the state
-abbrev Table : tie.Start → List ℕ
-Table s = part s.args.state.now table_at table_words
-
-usable : (s : Start) → Usable (Table s)
+usable : (s : Start) → Usable ((part s.args.state.now table_at table_words))
 usable s = table_usable _ (state_facts (state_in s.args.state.now) s.requires.receivable.sound).templates
 
--- in the arm `At`: the start, and the place that was found
-abbrev In : tie.After-known-told → tie.Start
-In c = c.before.before.before.before.before.before.before.before
-
-abbrev Place : tie.After-known-told → ℕ
-Place c = c.before.found.given.0.0
-
-few : (c : In-At) → Place c < max_templates
-few c = Opening.found-few _ _ c.find_id-found.ensures _ c.in-At.is (usable (In c))
+few : (c : In-At) → c.in-At.i < max_templates
+few c = Opening.found-few _ _ c.find_id-found.ensures _ c.in-At.is (table_usable _ (state_facts (state_in c.args.state.now) c.requires.receivable.sound).templates)
 
 pub find_id-found-requires : goal.find_id-found-requires
 find_id-found-requires c = record { table_words_in_bounds = search rules; usable = usable (goal.at.find_id-found-requires c).Start }
@@ -56,7 +44,7 @@ slice_bounds-take_by-end c = omega (arith, few c)
 
 pub take_by-requires : goal.take_by-requires
 take_by-requires c =
-    let s = In c in record { state_words_in_bounds = (s.pre.0, words_length (Table s) (Place c) (search rules) (few (goal.at.take_by-requires c).In-At)); receivable = (s.pre.1, Opening.found-usable _ _ c.find_id-found.ensures _ c.in-At.is (words-at (Table s) (Place c)) (usable (goal.at.take_by-requires s).Start)) }
+    record { state_words_in_bounds = (c.requires.state_words_in_bounds, words_length ((part c.args.state.now table_at table_words)) c.in-At.i (search rules) (few (goal.at.take_by-requires c).In-At)); receivable = (c.requires.receivable, Opening.found-usable _ _ c.find_id-found.ensures _ c.in-At.is (words-at ((part c.args.state.now table_at table_words)) c.in-At.i) (usable (goal.at.take_by-requires c).Start)) }
 
 pub returns-in-Nothing : goal.returns-in-Nothing
 returns-in-Nothing c = Steps.takes_refused _ (Opening.none-listed _ _ c.find_id-found.ensures _ c.in-Nothing.is)
@@ -64,5 +52,5 @@ returns-in-Nothing c = Steps.takes_refused _ (Opening.none-listed _ _ c.find_id-
 pub returns-in-At : goal.returns-in-At
 returns-in-At c =
     Steps.takes_as _
-    (ap (open_short (In c).args.body.now) (Opening.found-listed _ _ c.find_id-found.ensures _ c.in-At.is (words-at (Table (In c)) (Place c))))
+    (ap (open_short c.args.body.now) (Opening.found-listed _ _ c.find_id-found.ensures _ c.in-At.is (words-at ((part c.args.state.now table_at table_words)) c.in-At.i)))
     c.take_by.ensures

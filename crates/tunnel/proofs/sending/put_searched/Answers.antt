@@ -15,44 +15,21 @@ use Rattle.tunnel.proofs.SendingSteps.{front-size, front_lowerable, front-count,
 use Rattle.tunnel.proofs.sending.put_searched.Goals as goal
 use Rattle.tunnel.proofs.sending.put_searched.Goals.{After-lower_into, In-By}
 
--- once the front is lowered: the start, the packet, and the front
-abbrev In : tie.After-lower-into → tie.Start
-In c = c.before.before.before.before.before.before.before
+counted : (c : After-lower_into) → c.least-n.result ≡ length ((take c.least-n.result c.lower_into.new.image))
+counted c = front-count c.args.packet.now c.least-n.ensures c.requires.sendable _ c.lower_into.ensures
 
-abbrev Packet : tie.After-lower-into → List ℕ
-Packet c = (In c).args.packet.now
+fronted : (c : After-lower_into) → Fronted ((take c.least-n.result c.lower_into.new.image)) c.args.packet.now
+fronted c = front_fronted c.args.packet.now c.least-n.ensures c.requires.sendable _ c.lower_into.ensures
 
-abbrev Front : tie.After-lower-into → List ℕ
-Front c = take c.before.before.before.least.result c.lower-into.new.1.0
+shortable : (c : After-lower_into) (i v : ℕ) {t : List ℕ} → ChosenAt c.args.table.now (lowered c.args.packet.now) i v
+    → t ≡ words_at c.args.table.now i → Shortable t v ((take c.least-n.result c.lower_into.new.image)) c.args.packet.now c.args.out.now
+shortable c i v f e = chosen_shortable c.args.packet.now c.least-n.ensures c.requires.sendable _ c.lower_into.ensures i v f e
 
-counted : (c : After-lower_into) → c.least-n.result ≡ length (Front c)
-counted c = front-count (Packet c) c.least-n.ensures (In c).requires.1 _ c.lower_into.ensures
+chosen : (c : In-By) → ChosenAt c.args.table.now (lowered c.args.packet.now) c.in-By.i c.in-By.first
+chosen c = chosen_as c.args.table.now (lowered c.args.packet.now) c.in-By.is c.find-found.ensures
 
-fronted : (c : After-lower_into) → Fronted (Front c) (Packet c)
-fronted c = front_fronted (Packet c) c.least-n.ensures (In c).requires.1 _ c.lower_into.ensures
-
-shortable : (c : tie.After-lower-into) (i v : ℕ) {t : List ℕ} → ChosenAt (In c).args.table.now (lowered (Packet c)) i v
-    → t ≡ words_at (In c).args.table.now i → Shortable t v (Front c) (Packet c) (In c).args.out.now
-shortable c i v f e = chosen_shortable (Packet c) c.before.before.before.least.ensures (In c).requires.1 _ c.lower-into.ensures i v f e
-
--- in the arm `By`: the table, the place and the seed, and what the search says of them
-abbrev Made : tie.After-known-told → tie.After-lower-into
-Made c = c.before.before.before.before.before.before
-
-abbrev Table : tie.After-known-told → List ℕ
-Table c = (In (Made c)).args.table.now
-
-abbrev Place : tie.After-known-told → ℕ
-Place c = c.before.found.given.0.0
-
-abbrev Seed : tie.After-known-told → ℕ
-Seed c = c.before.found.given.0.1.0
-
-chosen : (c : In-By) → ChosenAt (Table c) (lowered (Packet (Made c))) (Place c) (Seed c)
-chosen c = chosen_as (Table c) (lowered (Packet (Made c))) c.in-By.is c.find-found.ensures
-
-within : (c : In-By) → Place c < max_templates
-within c = omega (arith, (chosen c).within, (In (Made c)).requires.1.usable.few)
+within : (c : In-By) → c.in-By.i < max_templates
+within c = omega (arith, (chosen c).within, c.requires.sendable.usable.few)
 
 pub slice_bounds-lower_into-end : goal.slice_bounds-lower_into-end
 slice_bounds-lower_into-end c = sym (front-size c.args.packet.now c.least-n.ensures)
@@ -64,7 +41,7 @@ pub slice_bounds-find-end : goal.slice_bounds-find-end
 slice_bounds-find-end c = counted (goal.at.slice_bounds-find-end c).After-lower_into
 
 pub find-found-requires : goal.find-found-requires
-find-found-requires c = record { table_words_in_bounds = c.requires.0; usable = c.requires.1.usable; fronted = fronted (goal.at.find-found-requires c).After-lower_into }
+find-found-requires c = record { table_words_in_bounds = c.requires.table_words_in_bounds; usable = c.requires.sendable.usable; fronted = fronted (goal.at.find-found-requires c).After-lower_into }
 
 pub overflow_mul-from : goal.overflow_mul-from
 overflow_mul-from c = omega (arith, within c)
@@ -86,11 +63,11 @@ slice_bounds-put_short-end-in-By c = counted (goal.at.slice_bounds-put_short-end
 
 pub put_short-requires : goal.put_short-requires
 put_short-requires c =
-    record { template_words_in_bounds = words_length (Table c) (Place c) (In (Made c)).requires.0 (within (goal.at.put_short-requires c).In-By); shortable = shortable (Made c) (Place c) (Seed c) (chosen (goal.at.put_short-requires c).In-By) (words-at (Table c) (Place c)) }
+    record { template_words_in_bounds = words_length c.args.table.now c.in-By.i c.requires.table_words_in_bounds (within (goal.at.put_short-requires c).In-By); shortable = shortable (goal.at.put_short-requires c).After-lower_into c.in-By.i c.in-By.first (chosen (goal.at.put_short-requires c).In-By) (words-at c.args.table.now c.in-By.i) }
 
 pub returns-in-None : goal.returns-in-None
 returns-in-None c = datagram-full _ _ _ (chosen_as _ _ c.in-None.is c.find-found.ensures) c.put_plain.ensures
 
 pub returns-in-By : goal.returns-in-By
 returns-in-By c =
-    datagram-short _ _ _ (Place c) (Seed c) (chosen (goal.at.returns-in-By c).In-By) (words-at (Table c) (Place c)) c.put_short.ensures
+    datagram-short _ _ _ c.in-By.i c.in-By.first (chosen (goal.at.returns-in-By c).In-By) (words-at c.args.table.now c.in-By.i) c.put_short.ensures

@@ -1,28 +1,17 @@
 -- The Context ID, and behind it the bytes outside the segments of the packet with the seed, are the short form: `put-short`. Assumes nothing.
-use Prim.Native.Nat.{ℕ, ◌-◌, ◌≤◌}
+use Prim.Native.Nat.{◌-◌, ◌≤◌}
 use mathlib.Core.Path.{◌≡◌}
-use mathlib.Core.List.{List}
 use native.Mathlib.Omega.{arith}
 use lib.ListN.{length, take, drop}
 use Rattle.tunnel.proofs.SendingSteps.{id_below, id-room, short_fillable, front-inside, behind, short_shortenable, put-short}
 use Rattle.tunnel.proofs.sending.put_short.Goals as goal
 use Rattle.tunnel.proofs.sending.put_short.Goals.{After-put_seed}
 
--- once the seed is put: the start, and the packet behind the front
-abbrev In : tie.After-put-seed → tie.Start
-In c = c.before.before.before.before.before.before.before.before.before.before.before.before
+rest : (c : After-put_seed) → take (length c.args.packet.now - length c.put_seed.new.front) (drop (length c.put_seed.new.front) c.args.packet.now) ≡ drop (length c.args.front.now) c.args.packet.now
+rest c = behind c.args.packet.now c.args.front.now c.put_seed.new.front c.put_seed.auto.front
 
-abbrev Packet : tie.After-put-seed → List ℕ
-Packet c = (In c).args.packet.now
-
-abbrev Seeded : tie.After-put-seed → List ℕ
-Seeded c = c.put-seed.new.1.1.0
-
-rest : (c : After-put_seed) → take (length (Packet c) - length (Seeded c)) (drop (length (Seeded c)) (Packet c)) ≡ drop (length (In c).args.front.now) (Packet c)
-rest c = behind (Packet c) (In c).args.front.now (Seeded c) c.put_seed.auto.1.1.0
-
-inside : (c : After-put_seed) → length (Seeded c) ≤ length (Packet c)
-inside c = omega (arith, front-inside _ _ _ _ _ (In c).requires.1, c.put_seed.auto.1.1.0)
+inside : (c : After-put_seed) → length c.put_seed.new.front ≤ length c.args.packet.now
+inside c = omega (arith, front-inside _ _ _ _ _ c.requires.shortable, c.put_seed.auto.front)
 
 pub judged_head-requires : goal.judged_head-requires
 judged_head-requires c = record { template_words_in_bounds = c.requires.template_words_in_bounds; usable_template = c.requires.shortable.usable }
@@ -41,8 +30,8 @@ slice_bounds-shorten-start c = inside (goal.at.slice_bounds-shorten-start c).Aft
 
 pub shorten-requires : goal.shorten-requires
 shorten-requires c =
-    record { template_words_in_bounds = c.requires.0; shortenable = short_shortenable _ _ _ _ _ c.requires.1 c.judged_head.ensures c.put_number-at.ensures c.put_seed.ensures (rest (goal.at.shorten-requires c).After-put_seed) }
+    record { template_words_in_bounds = c.requires.template_words_in_bounds; shortenable = short_shortenable _ _ _ _ _ c.requires.shortable c.judged_head.ensures c.put_number-at.ensures c.put_seed.ensures (rest (goal.at.shorten-requires c).After-put_seed) }
 
 pub returns : goal.returns
 returns c =
-    put-short _ _ _ _ _ c.requires.1 c.judged_head.ensures c.put_number-at.ensures c.put_seed.ensures (rest (goal.at.returns c).After-put_seed) c.shorten.ensures
+    put-short _ _ _ _ _ c.requires.shortable c.judged_head.ensures c.put_number-at.ensures c.put_seed.ensures (rest (goal.at.returns c).After-put_seed) c.shorten.ensures

@@ -7,11 +7,11 @@ use mathlib.Core.List.{List}
 use native.Mathlib.Omega.{arith}
 use borrow.Author.Tests.{lt-ltb, le-ltb}
 use lib.ListN.{length, drop}
-use Rattle.answer.specs.Verdict.{Test, first_of}
+use Rattle.answer.specs.Verdict.{first_of}
 use Rattle.answer.proofs.Tables.{stops, passes}
 use Rattle.lists.proofs.Calls.{called_true, called_false}
 use Rattle.inet.proofs.CarriedLaws.{alone, alone_parted}
-use Rattle.state.specs.State.{State, sound_state, state_in}
+use Rattle.state.specs.State.{sound_state, state_in}
 use Rattle.template.specs.Datagrams.{max_packet}
 use Rattle.tunnel.specs.Tunnel.{send_room, send_tests, send_verdict}
 use Rattle.tunnel.specs.Judging.{judge_tests}
@@ -20,43 +20,20 @@ use borrow.Author.Rules.{rules}
 use Rattle.tunnel.proofs.sending.send_verdict.Goals as goal
 use Rattle.tunnel.proofs.sending.send_verdict.Goals.{After-judge-v, Else-not-state_sound, Else-packet-gt-MAX_PACKET, Else-room-lt-SEND_ROOM}
 
--- the packet, the state and the table
-abbrev P : tie.Start → List ℕ
-P s = s.args.packet.now
-
-abbrev S : tie.Start → State
-S s = state_in s.args.state.now
-
-abbrev Table : tie.Start → List Test
-Table s = send_tests (S s) (P s) s.args.room
-
-abbrev Past : ℕ → tie.Start → Type 0
-Past k s = first_of (Table s) ≡ first_of (drop k (Table s))
-
--- the start of each place
-abbrev S1 : tie.Else1 → tie.Start
-S1 c = c.before.before.before
-
-abbrev S2 : tie.Else2 → tie.Start
-S2 c = S1 c.before.before
-
-abbrev S3 : tie.Else3 → tie.Start
-S3 c = S2 c.before
-
-past1 : (c : Else-room-lt-SEND_ROOM) → Past 1 (S1 c)
+past1 : (c : Else-room-lt-SEND_ROOM) → (first_of ((send_tests ((state_in c.args.state.now)) c.args.packet.now c.args.room)) ≡ first_of (drop 1 ((send_tests ((state_in c.args.state.now)) c.args.packet.now c.args.room))))
 unfolding send_tests
-past1 c = passes _ _ _ (le-ltb (S1 c).args.room send_room (omega arith))
+past1 c = passes _ _ _ (le-ltb c.args.room send_room (omega arith))
 
-sound : (c : Else-not-state_sound) → sound_state (S (S2 c)) ≡ true
+sound : (c : Else-not-state_sound) → sound_state ((state_in c.args.state.now)) ≡ true
 sound c = called_true c.state_sound.ensures c.if-not-state_sound.false
 
-past2 : (c : Else-not-state_sound) → Past 2 (S2 c)
+past2 : (c : Else-not-state_sound) → (first_of ((send_tests ((state_in c.args.state.now)) c.args.packet.now c.args.room)) ≡ first_of (drop 2 ((send_tests ((state_in c.args.state.now)) c.args.packet.now c.args.room))))
 unfolding send_tests
-past2 c = past1 c.before.before ∙ passes _ _ _ (ap not (sound c))
+past2 c = passes _ _ _ (le-ltb c.args.room send_room (omega arith)) ∙ passes _ _ _ (ap not (sound c))
 
-past3 : (c : Else-packet-gt-MAX_PACKET) → Past 3 (S3 c)
+past3 : (c : Else-packet-gt-MAX_PACKET) → (first_of ((send_tests ((state_in c.args.state.now)) c.args.packet.now c.args.room)) ≡ first_of (drop 3 ((send_tests ((state_in c.args.state.now)) c.args.packet.now c.args.room))))
 unfolding send_tests
-past3 c = past2 c.before ∙ passes _ _ _ (le-ltb max_packet (length (P (S3 c))) (omega arith))
+past3 c = passes _ _ _ (le-ltb c.args.room send_room (omega arith)) ∙ passes _ _ _ (ap not (called_true c.state_sound.ensures c.if-not-state_sound.false)) ∙ passes _ _ _ (le-ltb max_packet (length c.args.packet.now) (omega arith))
 
 pub returns-then-room-lt-SEND_ROOM : goal.returns-then-room-lt-SEND_ROOM
 unfolding send_verdict send_tests
@@ -68,23 +45,24 @@ returns-then-not-state_sound c = sym (past1 (goal.at.returns-then-not-state_soun
 
 pub returns-then-packet-gt-MAX_PACKET : goal.returns-then-packet-gt-MAX_PACKET
 unfolding send_verdict send_tests
-returns-then-packet-gt-MAX_PACKET c = sym (past2 (goal.at.returns-then-packet-gt-MAX_PACKET c).Else-not-state_sound ∙ stops _ _ _ (lt-ltb max_packet (length (P (S2 c))) (omega arith)))
+returns-then-packet-gt-MAX_PACKET c = sym (past2 (goal.at.returns-then-packet-gt-MAX_PACKET c).Else-not-state_sound ∙ stops _ _ _ (lt-ltb max_packet (length c.args.packet.now) (omega arith)))
 
 pub judge-v-requires : goal.judge-v-requires
 judge-v-requires c =
-    record { state_words_in_bounds = search rules; state_value = (sound (goal.at.judge-v-requires c).Else-not-state_sound, alone_parted (P (S3 c)) (omega arith)) }
+    record { state_words_in_bounds = search rules; state_value = (sound (goal.at.judge-v-requires c).Else-not-state_sound, alone_parted c.args.packet.now (omega arith)) }
 
 -- the judge's verdict is that of the whole table
-judged : (c : After-judge-v) → c.judge-v.result ≡ send_verdict (S (S3 c)) (P (S3 c)) (S3 c).args.room
+judged : (c : After-judge-v) → first_of (send_tests (state_in c.args.state.now) c.args.packet.now c.args.room) ≡ first_of (drop 3 (send_tests (state_in c.args.state.now) c.args.packet.now c.args.room))
+    → c.judge-v.result ≡ send_verdict ((state_in c.args.state.now)) c.args.packet.now c.args.room
 unfolding send_verdict
-judged c =
+judged c p =
     c.judge-v.ensures
-    ∙ ap (λ (q : List ℕ). first_of (judge_tests true (S (S3 c)) q)) (alone (P (S3 c)))
-    ∙ judged-sent (S (S3 c)) (P (S3 c)) (S3 c).args.room
-    ∙ sym (past3 c)
+    ∙ ap (λ (q : List ℕ). first_of (judge_tests true ((state_in c.args.state.now)) q)) (alone c.args.packet.now)
+    ∙ judged-sent ((state_in c.args.state.now)) c.args.packet.now c.args.room
+    ∙ sym p
 
 pub returns-in-Stop : goal.returns-in-Stop
-returns-in-Stop c = sym c.in-Stop.is ∙ judged (goal.at.returns-in-Stop c).After-judge-v
+returns-in-Stop c = sym c.in-Stop.is ∙ judged (goal.at.returns-in-Stop c).After-judge-v (past3 (goal.at.returns-in-Stop c).Else-packet-gt-MAX_PACKET)
 
 pub returns-in-Go : goal.returns-in-Go
-returns-in-Go c = sym c.in-Go.is ∙ judged (goal.at.returns-in-Go c).After-judge-v
+returns-in-Go c = sym c.in-Go.is ∙ judged (goal.at.returns-in-Go c).After-judge-v (past3 (goal.at.returns-in-Go c).Else-packet-gt-MAX_PACKET)
