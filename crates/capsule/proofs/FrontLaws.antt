@@ -16,7 +16,6 @@ use Rattle.varint.specs.declared.NumberRead.TheVariants.{Whole, Cut}
 use Rattle.varint.specs.Numbers.{read_number}
 use Rattle.varint.proofs.Reading as Number
 use Rattle.capsule.specs.declared.Head.{Head}
-use Rattle.capsule.specs.declared.Head.TheVariants as Head
 use Rattle.capsule.specs.Heads.{head_length, head_type, head_of, HeadWithin}
 use Rattle.capsule.specs.Capsules.{Capsule, unknown, refused, capsule, read_value, in_frame, frame_of, read_capsule}
 use Rattle.capsule.proofs.FrameCases as Frame

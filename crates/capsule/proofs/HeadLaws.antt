@@ -14,7 +14,6 @@ use Rattle.varint.specs.Numbers.{read_number}
 use Rattle.varint.proofs.Reading as Number
 use Rattle.capsule.specs.declared.FrameRead.TheVariants.{Refused}
 use Rattle.capsule.specs.declared.Head.{Head}
-use Rattle.capsule.specs.declared.Head.TheVariants as Head
 use Rattle.capsule.specs.Heads.{head_size, head_length, head_type, head_of, HeadRead}
 use Rattle.capsule.specs.Capsules.{frame_at, after_length, after_type, frame_of}
 

@@ -6,7 +6,6 @@ use mathlib.Core.List.{List}
 use mathlib.Core.Logic.{⊎_elim}
 use native.Mathlib.Omega.{arith}
 use borrow.Author.Tests.{ne_eqb, le-ltb, lt-ltb}
-use lib.Dec.{eqb}
 use lib.ListN.{length, take, drop, drop_of_length-le, length-take, length-drop}
 use lib.Seq.{drop-drop}
 use Rattle.answer.specs.declared.Refusal.{Refusal}

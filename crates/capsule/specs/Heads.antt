@@ -1,10 +1,9 @@
 -- Type and length of a capsule, and where its value starts: its first bytes, at most `head_size`.
-use Rattle.std.specs.Prelude.{ℕ, ◌+◌, ◌*◌, ◌<◌, ◌≤◌, ◌≡◌, List, length, drop}
+use Rattle.std.specs.Prelude.{ℕ, ◌+◌, ◌<◌, ◌≤◌, ◌≡◌, List, length, drop}
 use Rattle.varint.specs.declared.NumberRead.{NumberRead}
 use Rattle.varint.specs.declared.NumberRead.TheVariants.{Whole, Cut}
 use Rattle.varint.specs.Numbers.{limit, read_number}
 use Rattle.capsule.specs.declared.Head.{Head}
-use Rattle.capsule.specs.declared.Head.TheVariants as Head
 
 -- two numbers of at most 8 bytes
 abbrev pub head_size : ℕ

@@ -24,7 +24,6 @@ use Rattle.exchange.specs.Writing.{Gives}
 use Rattle.exchange.proofs.ReadLaws.{read_refusal_leaves}
 use Rattle.stream.specs.declared.feeding.Call.{Call}
 use Rattle.stream.specs.declared.feeding.Call.TheVariants.{Handed, Between, Wait, Stopped}
-use Rattle.stream.specs.declared.feeding.Piece.{Piece}
 use Rattle.stream.specs.Runs.{Lent, LeavesAll, Remembers}
 use Rattle.stream.proofs.CallLaws.{refused-either}
 use Rattle.tunnel_c.specs.declared.PlainAnswer.{PlainAnswer}

@@ -13,7 +13,6 @@ use Rattle.lists.specs.declared.RouteList.{RouteList}
 use Rattle.lists.specs.Words.{address_words, route_words, no_addresses, no_routes, entries_of, ranges_of}
 use Rattle.state.specs.State.{received_at, given_at, table_at, state_words, state_in, addresses_received, routes_received, addresses_given, routes_given}
 use Rattle.state.proofs.StoreLaws.{received_addresses_put, received_routes_put, given_addresses_put, given_routes_put}
-use Rattle.grant.specs.declared.Grants.{Grants}
 use Rattle.grant.specs.Lists.{no_grants, grants_in, put_grants, Stored}
 use Rattle.grant.specs.Lists.{with_received_addresses, with_received_routes, with_given_addresses, with_given_routes}
 

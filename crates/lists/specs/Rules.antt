@@ -1,5 +1,5 @@
 -- The rules of an address entry, of a route range, and of neighbours in a list of ranges (RFC 9484, section 4.7).
-use Rattle.std.specs.Prelude.{ℕ, ◌-◌, ◌^◌, Bool, true, false, ◌&&◌, ◌||◌, List, [], ◌∷◌, leb, ltb, eqb}
+use Rattle.std.specs.Prelude.{ℕ, ◌-◌, ◌^◌, Bool, true, ◌&&◌, ◌||◌, List, [], ◌∷◌, leb, ltb, eqb}
 use Rattle.answer.specs.Choice.{pick}
 use Rattle.octets.specs.Wide.{wide, low_zero}
 use Rattle.varint.specs.Numbers.{limit}

@@ -1,7 +1,7 @@
 -- The rules of a state by its parts, what a replaced part does to them, and two ends that mirror each other. Assumes nothing.
 use Prim.Native.Nat.{ℕ}
 use mathlib.Core.Bool.{Bool, true, false, ◌&&◌}
-use mathlib.Core.Path.{◌≡◌, refl, sym}
+use mathlib.Core.Path.{◌≡◌, sym}
 use mathlib.Core.List.{List}
 use Rattle.answer.proofs.Tests.{and_both}
 use Rattle.inet.specs.Packet.{lowered}

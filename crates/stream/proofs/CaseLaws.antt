@@ -17,7 +17,6 @@ use Rattle.answer.proofs.Tests.{order}
 use Rattle.varint.specs.Numbers.{limit, read_number}
 use Rattle.capsule.specs.declared.FrameRead.TheVariants as F
 use Rattle.capsule.specs.declared.Head.{Head}
-use Rattle.capsule.specs.declared.Head.TheVariants as Head
 use Rattle.capsule.specs.Heads.{head_size, head_of, HeadRead}
 use Rattle.capsule.specs.Capsules.{max_value, Capsule, datagram, unknown, Reading, refused, capsule, read_value, in_frame, frame_of, read_capsule}
 use Rattle.capsule.proofs.FrameCases as Frame

@@ -22,7 +22,6 @@ use Rattle.output.proofs.Placing.{put_front}
 use Rattle.varint.specs.Numbers.{limit}
 use Rattle.capsule.specs.declared.CapsuleRead.{CapsuleRead}
 use Rattle.capsule.specs.declared.Head.{Head}
-use Rattle.capsule.specs.declared.Head.TheVariants as Head
 use Rattle.capsule.specs.Heads.{head_size, head_of, HeadRead}
 use Rattle.capsule.specs.Capsules.{max_value, Capsule, unknown, kind_of, Reading, refused, capsule, read_capsule}
 use Rattle.capsule.specs.Results.{result_at}

@@ -11,7 +11,6 @@ use lib.Dec.{eqb}
 use lib.ListN.{length, get_or, take, drop}
 use Rattle.output.specs.Places.{Put}
 use Rattle.capsule.specs.declared.Head.{Head}
-use Rattle.capsule.specs.declared.Head.TheVariants as Head
 use Rattle.capsule.specs.Heads.{HeadRead}
 use Rattle.capsule.specs.Capsules.{max_value}
 use Rattle.state.specs.State.{store_at}

@@ -14,7 +14,6 @@ use Rattle.output.specs.Places.{Put}
 use Rattle.output.proofs.Placing.{put_as}
 use Rattle.varint.specs.Numbers.{limit, read_number}
 use Rattle.capsule.specs.declared.Head.{Head}
-use Rattle.capsule.specs.declared.Head.TheVariants as Head
 use Rattle.capsule.specs.Heads.{head_size, head_of, HeadRead}
 use Rattle.capsule.specs.Capsules.{max_value}
 use Rattle.state.specs.State.{store_at, state_words}

@@ -11,7 +11,6 @@ use Rattle.answer.proofs.Tests.{order}
 use Rattle.octets.specs.Big.{Bytes}
 use Rattle.capsule.specs.declared.FrameRead.TheVariants as F
 use Rattle.capsule.specs.declared.Head.{Head}
-use Rattle.capsule.specs.declared.Head.TheVariants as Head
 use Rattle.capsule.specs.Heads.{head_of, HeadWithin}
 use Rattle.capsule.specs.Capsules.{max_value, frame_at, frame_of, refused, read_capsule}
 use Rattle.capsule.proofs.FrameCases as Frame

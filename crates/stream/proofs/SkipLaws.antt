@@ -12,7 +12,6 @@ use Rattle.answer.specs.Choice.{pick}
 use Rattle.octets.specs.Big.{Bytes}
 use Rattle.varint.specs.Numbers.{limit}
 use Rattle.capsule.specs.declared.Head.{Head}
-use Rattle.capsule.specs.declared.Head.TheVariants as Head
 use Rattle.capsule.specs.Heads.{head_of, HeadWithin}
 use Rattle.capsule.specs.Capsules.{unknown, refused, capsule, read_capsule}
 use Rattle.capsule.proofs.HeadLaws.{head_append}

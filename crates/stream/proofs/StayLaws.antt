@@ -12,7 +12,6 @@ use lib.ListN.{length, get_or, take}
 use lib.Seq.{length-take-le}
 use Rattle.answer.proofs.Tests.{order}
 use Rattle.capsule.specs.declared.Head.{Head}
-use Rattle.capsule.specs.declared.Head.TheVariants as Head
 use Rattle.capsule.specs.Heads.{HeadRead}
 use Rattle.capsule.specs.Capsules.{max_value}
 use Rattle.capsule.proofs.RefusalLaws.{waits-frame}

@@ -1,6 +1,5 @@
 -- A call over the lent memory: the store in words and bytes, what is tested first, and what a call leaves.
-use Rattle.std.specs.Prelude.{ℕ, ◌+◌, ◌≡◌, true, false, not, List, [], ◌∷◌, ltb, eqb, length, get_or, take}
-use Rattle.answer.specs.declared.Refusal.{Refusal}
+use Rattle.std.specs.Prelude.{ℕ, ◌+◌, ◌≡◌, not, List, [], ◌∷◌, ltb, eqb, length, get_or, take}
 use Rattle.answer.specs.declared.Refusal.TheVariants.{Incomplete, TooLong, BadAddress, BadRange, RangesOutOfOrder, BadRequestId, TooMany, BrokenState, NoRoom}
 use Rattle.answer.specs.declared.Verdict.{Verdict}
 use Rattle.answer.specs.declared.Verdict.TheVariants.{Go, Stop}

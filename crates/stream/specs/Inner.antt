@@ -6,7 +6,6 @@ use Rattle.answer.specs.declared.Verdict.TheVariants.{Go, Stop}
 use Rattle.answer.specs.Number.{number_of}
 use Rattle.capsule.specs.declared.FrameRead.TheVariants.{Value}
 use Rattle.capsule.specs.declared.Head.{Head}
-use Rattle.capsule.specs.declared.Head.TheVariants as Head
 use Rattle.capsule.specs.Heads.{HeadRead}
 use Rattle.capsule.specs.Capsules.{frame_of}
 use Rattle.state.specs.State.{store_at, state_words}

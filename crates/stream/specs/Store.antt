@@ -9,7 +9,6 @@ use Rattle.varint.specs.Numbers.{limit}
 use Rattle.capsule.specs.declared.FrameRead.{FrameRead}
 use Rattle.capsule.specs.declared.FrameRead.TheVariants.{Value, Refused}
 use Rattle.capsule.specs.declared.Head.{Head}
-use Rattle.capsule.specs.declared.Head.TheVariants as Head
 use Rattle.capsule.specs.Heads.{head_of}
 use Rattle.capsule.specs.Capsules.{Capsule, unknown, Reading, refused, capsule, frame_of, read_capsule}
 

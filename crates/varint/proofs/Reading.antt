@@ -16,7 +16,6 @@ use Rattle.answer.specs.Choice.{pick}
 use Rattle.answer.proofs.Tests.{order}
 use Rattle.octets.specs.Big.{big_from, Bytes}
 use Rattle.octets.proofs.BigLaws as Big
-use Rattle.varint.specs.declared.NumberRead.{NumberRead}
 use Rattle.varint.specs.declared.NumberRead.TheVariants.{Whole, Cut}
 use Rattle.varint.specs.Numbers.{limit, form_size, read_number}
 

@@ -1,8 +1,8 @@
 -- Reading what `encode` writes gives the value back, and a reading of shortest size is what `encode` writes. Assumes nothing.
-use Prim.Native.Nat.{ℕ, suc, ◌+◌, ◌-◌, ◌*◌, ◌/◌, ◌%◌, ◌^◌, ◌<◌, ◌≤◌}
-use mathlib.Core.Path.{◌≡◌, refl, sym, ap, ◌∙◌}
-use mathlib.Core.List.{List, [], ◌∷◌, ◌++◌}
-use mathlib.Core.Logic.{◌⊎◌, inl, inr, ⊎_elim}
+use Prim.Native.Nat.{ℕ, suc, ◌+◌, ◌-◌, ◌*◌, ◌/◌, ◌%◌, ◌^◌, ◌<◌}
+use mathlib.Core.Path.{◌≡◌, sym, ap, ◌∙◌}
+use mathlib.Core.List.{List, ◌∷◌, ◌++◌}
+use mathlib.Core.Logic.{⊎_elim}
 use native.Mathlib.Nat.{add-mul, add_assoc}
 use native.Mathlib.Omega.{arith}
 use lib.ListN.{length, drop, get_or, take, length-take, length-drop, take-append-drop}
@@ -10,9 +10,8 @@ use lib.Seq.{drop-cons}
 use Rattle.answer.proofs.Tests.{order}
 use Rattle.octets.specs.Big.{big_from, digits, Bytes}
 use Rattle.octets.proofs.BigLaws as Big
-use Rattle.varint.specs.declared.NumberRead.{NumberRead}
-use Rattle.varint.specs.declared.NumberRead.TheVariants.{Whole, Cut}
-use Rattle.varint.specs.Numbers.{limit, encode, encoded_size, form_size, read_number}
+use Rattle.varint.specs.declared.NumberRead.TheVariants.{Whole}
+use Rattle.varint.specs.Numbers.{limit, encode, encoded_size, read_number}
 use Rattle.varint.proofs.Reading as Reading
 use Rattle.varint.proofs.Encoding as Encoding
 

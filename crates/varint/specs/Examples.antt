@@ -1,5 +1,5 @@
 -- The numbers of RFC 9000, appendix A.1, read and written. Each fact here is found by computing.
-use Rattle.std.specs.Prelude.{ℕ, ◌^◌, ◌-◌, ◌≡◌, refl, List, [], ◌∷◌}
+use Rattle.std.specs.Prelude.{◌^◌, ◌-◌, ◌≡◌, refl, [], ◌∷◌}
 use Rattle.varint.specs.declared.NumberRead.TheVariants.{Whole, Cut}
 use Rattle.varint.specs.Numbers.{read_number, encode}
 

@@ -1,5 +1,4 @@
 -- The invariant: what the entries from i on say is the answer (`Checking`); each turn judges the entries of one tag, by `joined_pass` or `joined_fail`.
-use Prim.Native.Nat.{◌-◌}
 use Rattle.octets.proofs.Scans as Scans
 use Rattle.lists.proofs.ListScans as List
 use Rattle.lists.proofs.Joining as Joining

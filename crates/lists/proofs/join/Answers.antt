@@ -1,5 +1,5 @@
 -- The invariant: the entries before `next` are put together (`Joins`), and their low word is a word; each turn is `join_more`.
-use Prim.Native.Nat.{◌+◌, ◌-◌, ◌*◌, ◌^◌, ◌<◌}
+use Prim.Native.Nat.{◌+◌, ◌*◌, ◌^◌, ◌<◌}
 use native.Mathlib.Omega.{arith}
 use lib.Bits.{or_lt}
 use Rattle.lists.specs.Words.{words_per_entry, word}

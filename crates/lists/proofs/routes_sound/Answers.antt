@@ -1,5 +1,4 @@
 -- The invariant: what the ranges from i on say after the last one is the answer (`Judging`); each turn, over one run, is a law of it. Assumes nothing.
-use Prim.Native.Nat.{◌-◌}
 use mathlib.Core.Path.{◌∙◌}
 use Rattle.lists.proofs.ListScans as List
 use Rattle.lists.proofs.Calls.{called_true, called_false}

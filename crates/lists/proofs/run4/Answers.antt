@@ -1,6 +1,5 @@
 -- The invariant `Running4`: to range i nothing is broken, or what is broken shows in high and end; each turn is a law of it. Assumes nothing.
 use mathlib.Core.Logic.{inl, inr}
-use Prim.Native.Nat.{◌-◌}
 use native.Mathlib.Omega.{arith}
 use Rattle.lists.proofs.RunLaws as Law
 use Rattle.lists.proofs.run4.Goals as goal

@@ -1,5 +1,4 @@
 -- The invariant `Running6`: what the ranges behind i say is what those behind j say; each turn is a law of it. Assumes nothing.
-use Prim.Native.Nat.{◌-◌}
 use Rattle.lists.proofs.Calls.{called_true, called_false}
 use Rattle.lists.proofs.RunLaws as Law
 use Rattle.lists.proofs.run6.Goals as goal

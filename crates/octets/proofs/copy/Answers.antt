@@ -1,5 +1,5 @@
 -- The invariant: the blocks before the place are copied, and the other bytes are as they were (`Copying`). Assumes nothing.
-use Prim.Native.Nat.{◌+◌, ◌-◌}
+use Prim.Native.Nat.{◌+◌}
 use mathlib.Core.Path.{refl}
 use native.Mathlib.Omega.{arith}
 use lib.ListN.{length}

@@ -1,5 +1,4 @@
 -- The invariant: what is copied and what is left are the words (`Copied`). Assumes nothing.
-use Prim.Native.Nat.{◌-◌}
 use native.Mathlib.Omega.{arith}
 use Rattle.octets.proofs.Parts as Parts
 use Rattle.octets.proofs.copy_words.Goals as goal

@@ -1,6 +1,5 @@
 -- `octets::put_digits` meets its contract. The digits still to be written, and then what was written, are the whole.
 -- Assumes nothing.
-use Prim.Native.Nat.{◌-◌}
 use mathlib.Core.Path.{refl}
 use native.Mathlib.Omega.{arith}
 use lib.ListN.{length-set}

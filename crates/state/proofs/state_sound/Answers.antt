@@ -11,15 +11,15 @@ use Rattle.state.proofs.state_sound.Goals.{Joined-not-short_sound, Joined-not-sh
 received-sound : (c : Joined-not-short_sound) → sound_side (state_in c.args.state.now).received ≡ true
 received-sound c =
     elim c.if-not-short_sound.branch [
-      then-not-short_sound+else-not-side_sound w ↦ called_true w.side_sound.ensures w.if-not-side_sound.false
-    | else-not-short_sound w ↦ c.short_sound.ensures w.if-not-short_sound.false
+      | then-not-short_sound+else-not-side_sound w ↦ called_true w.side_sound.ensures w.if-not-side_sound.false
+      | else-not-short_sound w ↦ c.short_sound.ensures w.if-not-short_sound.false
     ]
 
 given-sound : (c : Joined-not-short_sound-2) → sound_side (state_in c.args.state.now).given ≡ true
 given-sound c =
     elim c.if-not-short_sound-2.branch [
-      then-not-short_sound-2+else-not-side_sound-2 w ↦ called_true w.side_sound-then-not-short_sound-2.ensures w.if-not-side_sound-2.false
-    | else-not-short_sound-2 w ↦ c.short_sound-2.ensures w.if-not-short_sound-2.false
+      | then-not-short_sound-2+else-not-side_sound-2 w ↦ called_true w.side_sound-then-not-short_sound-2.ensures w.if-not-side_sound-2.false
+      | else-not-short_sound-2 w ↦ c.short_sound-2.ensures w.if-not-short_sound-2.false
     ]
 
 pub returns-then-not-side_sound : goal.returns-then-not-side_sound

@@ -1,6 +1,6 @@
 -- The invariant: the IDs read so far rise above zero, also with any behind them that rise above the last one (`Climbing`). So a good entry is in front as long
 -- as there are fewer than there are in all, and in the end all of them rise: none is zero, and no two are equal. Assumes nothing.
-use Prim.Native.Nat.{◌+◌, ◌-◌, ◌<◌}
+use Prim.Native.Nat.{◌+◌, ◌<◌}
 use mathlib.Core.Bool.{true≢false}
 use mathlib.Core.Path.{sym}
 use native.Mathlib.Omega.{arith}

@@ -1,9 +1,8 @@
 -- The invariant: the first n words are the IDs read so far, none of them zero, and with those that are left they are all of the value's. So a good entry
 -- is in front as long as there are fewer than there are in all, and what is left after the loop is to compare them.
-use Prim.Native.Nat.{◌+◌, ◌-◌, ◌<◌}
+use Prim.Native.Nat.{◌+◌, ◌<◌}
 use mathlib.Core.Path.{◌∙◌}
 use native.Mathlib.Omega.{arith}
-use borrow.Table.Elements.{same_len}
 use lib.ListN.{length, set, length-take}
 use Rattle.octets.proofs.Parts as Parts
 use Rattle.capsule.specs.RequestIds.{ids_in}

@@ -1,8 +1,7 @@
 -- The invariant: the words hold the entries read so far, and what is left to parse gives the answer for an assignment. A request's IDs are judged at the
 -- first bad entry or at the end, which is what the definition says (`IdLaws`). A turn is `EntriesTurn`'s.
-use Prim.Native.Nat.{◌+◌, ◌-◌}
+use Prim.Native.Nat.{◌+◌}
 use mathlib.Core.Path.{◌≡◌, sym, ◌∙◌}
-use mathlib.Core.Logic.{⊎_elim}
 use native.Mathlib.Omega.{arith}
 use borrow.Author.Rules.{rules}
 use lib.ListN.{drop}
@@ -26,8 +25,8 @@ turned : (c : Joined-count-lt-MAX_ADDRESSES) → T.Reading c.args.request c.args
 turned c =
     let i = c.loop-at.invariant in
     elim c.if-count-lt-MAX_ADDRESSES.branch [
-      then-count-lt-MAX_ADDRESSES w ↦ rw (w.words-is ∙ w.put_entry.ensures) (T.next i (omega arith) _ _ (got c) (omega arith))
-    | else-count-lt-MAX_ADDRESSES w ↦ rw w.words-is (T.next-full i (omega arith) _ _ (got c) (omega arith))
+      | then-count-lt-MAX_ADDRESSES w ↦ rw (w.words-is ∙ w.put_entry.ensures) (T.next i (omega arith) _ _ (got c) (omega arith))
+      | else-count-lt-MAX_ADDRESSES w ↦ rw w.words-is (T.next-full i (omega arith) _ _ (got c) (omega arith))
     ]
 
 pub loop-at-init : goal.loop-at-init

@@ -1,10 +1,8 @@
 -- The invariant: the words hold the ranges read so far, the last of which is kept, and what is left to parse gives the whole answer. A turn is
 -- `RangesTurn`'s.
-use Prim.Native.Nat.{◌+◌, ◌-◌}
+use Prim.Native.Nat.{◌+◌}
 use mathlib.Core.Path.{◌≡◌, sym, ◌∙◌}
-use mathlib.Core.Logic.{⊎_elim}
 use native.Mathlib.Omega.{arith}
-use borrow.Author.Tests.{not-false}
 use lib.ListN.{drop}
 use Rattle.octets.proofs.Parts as Parts
 use Rattle.capsule.specs.declared.element.RangeRead.TheVariants.{Good}
@@ -27,8 +25,8 @@ turned c =
     let i = c.loop-at.invariant in
     let o = sym c.in_order.ensures ∙ c.if-not-in_order.false in
     elim c.if-count-lt-MAX_RANGES.branch [
-      then-count-lt-MAX_RANGES w ↦ rw (w.words-is ∙ w.put_range.ensures) (T.next i (omega arith) _ _ (got c) (omega arith) o)
-    | else-count-lt-MAX_RANGES w ↦ rw w.words-is (T.next-full i (omega arith) _ _ (got c) (omega arith) o)
+      | then-count-lt-MAX_RANGES w ↦ rw (w.words-is ∙ w.put_range.ensures) (T.next i (omega arith) _ _ (got c) (omega arith) o)
+      | else-count-lt-MAX_RANGES w ↦ rw w.words-is (T.next-full i (omega arith) _ _ (got c) (omega arith) o)
     ]
 
 -- the size that the version tells is the one that was read

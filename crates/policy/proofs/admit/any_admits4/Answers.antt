@@ -1,8 +1,6 @@
 -- The invariant: what the ranges from i on say is the answer (`Seeking`); each turn is `any_hit` or `any_miss`. A range that the low words rule
 -- out is a miss (`skip-past`, `skip-before`), since it is sound. Assumes nothing.
-use Prim.Native.Nat.{◌-◌}
 use mathlib.Core.Path.{refl, sym, ◌∙◌}
-use mathlib.Core.Logic.{⊎_elim}
 use native.Mathlib.Omega.{arith}
 use Rattle.octets.proofs.Scans as Scans
 use Rattle.lists.proofs.ListScans as Lists
@@ -28,9 +26,9 @@ loop-i-preserved c =
     let a = c.args in (
       v.0,
       elim c.if-lo-w.branch [
-        then-lo-w+then-w-b+else-admits w ↦ Scans.any_miss v.1 h w.range_at-r.ensures (sym w.admits.ensures ∙ w.if-admits.false)
-      | then-lo-w+else-w-b w ↦ Scans.any_miss v.1 h refl (Admit.skip-before a.w.now c.requires.routes_sound i h a.a a.protocol a.icmp c.requires.version_4 (omega (arith, w.if-w-b.false)))
-      | else-lo-w w ↦ Scans.any_miss v.1 h refl (Admit.skip-past a.w.now c.requires.routes_sound i h a.a a.protocol a.icmp c.requires.version_4 (omega (arith, w.if-lo-w.false)))
+        | then-lo-w+then-w-b+else-admits w ↦ Scans.any_miss v.1 h w.range_at-r.ensures (sym w.admits.ensures ∙ w.if-admits.false)
+        | then-lo-w+else-w-b w ↦ Scans.any_miss v.1 h refl (Admit.skip-before a.w.now c.requires.routes_sound i h a.a a.protocol a.icmp c.requires.version_4 (omega (arith, w.if-w-b.false)))
+        | else-lo-w w ↦ Scans.any_miss v.1 h refl (Admit.skip-past a.w.now c.requires.routes_sound i h a.a a.protocol a.icmp c.requires.version_4 (omega (arith, w.if-lo-w.false)))
       ],
     )
 

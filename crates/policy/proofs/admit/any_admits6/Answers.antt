@@ -1,8 +1,7 @@
 -- The invariant: what the ranges from i on say is the answer (`Seeking`), as in `any_admits4`; a range whose end is below the address is a miss,
 -- by its high word (`skip-high`) or, where that is no more than the address's, by its low one (`skip-low`). Assumes nothing.
-use Prim.Native.Nat.{◌+◌, ◌*◌, ◌-◌, ◌^◌, ◌<◌}
+use Prim.Native.Nat.{◌+◌, ◌*◌, ◌^◌, ◌<◌}
 use mathlib.Core.Path.{refl, sym, ◌∙◌}
-use mathlib.Core.Logic.{⊎_elim}
 use native.Mathlib.Omega.{arith}
 use lib.ListN.{get_or}
 use Rattle.lists.specs.Words.{words_per_range}
@@ -35,10 +34,10 @@ loop-i-preserved c =
     let f : get_or a.w.now (i * words_per_range + 5) 0 < 2 ^ 64 = omega (arith, c.type_inv.w (i * words_per_range + 5)) in (
       v.0,
       elim c.if-hi-end_hi.branch [
-        then-hi-end_hi+then-hi-end_hi-2+else-admits w ↦ Scans.any_miss v.1 h w.range_at-r.ensures (sym w.admits.ensures ∙ w.if-admits.false)
-      | then-hi-end_hi+else-hi-end_hi-2+then-lo-w+else-admits-2 w ↦ Scans.any_miss v.1 h w.range_at-r-then-lo-w.ensures (sym w.admits-then-lo-w.ensures ∙ w.if-admits-2.false)
-      | then-hi-end_hi+else-hi-end_hi-2+else-lo-w w ↦ Scans.any_miss v.1 h refl (Admit.skip-low a.w.now i a.a a.protocol a.icmp (omega (arith, w.if-hi-end_hi-2.false)) (omega (arith, w.if-lo-w.false)))
-      | else-hi-end_hi w ↦ Scans.any_miss v.1 h refl (Admit.skip-high a.w.now i a.a a.protocol a.icmp f (omega (arith, w.if-hi-end_hi.false)))
+        | then-hi-end_hi+then-hi-end_hi-2+else-admits w ↦ Scans.any_miss v.1 h w.range_at-r.ensures (sym w.admits.ensures ∙ w.if-admits.false)
+        | then-hi-end_hi+else-hi-end_hi-2+then-lo-w+else-admits-2 w ↦ Scans.any_miss v.1 h w.range_at-r-then-lo-w.ensures (sym w.admits-then-lo-w.ensures ∙ w.if-admits-2.false)
+        | then-hi-end_hi+else-hi-end_hi-2+else-lo-w w ↦ Scans.any_miss v.1 h refl (Admit.skip-low a.w.now i a.a a.protocol a.icmp (omega (arith, w.if-hi-end_hi-2.false)) (omega (arith, w.if-lo-w.false)))
+        | else-hi-end_hi w ↦ Scans.any_miss v.1 h refl (Admit.skip-high a.w.now i a.a a.protocol a.icmp f (omega (arith, w.if-hi-end_hi.false)))
       ],
     )
 

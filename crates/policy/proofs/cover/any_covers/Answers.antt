@@ -1,5 +1,4 @@
 -- The invariant: what the entries from i on say is the answer (`Seeking`); each turn is `any_hit` or `any_miss`. Assumes nothing.
-use Prim.Native.Nat.{◌-◌}
 use mathlib.Core.Path.{sym, ◌∙◌}
 use Rattle.octets.proofs.Scans as Scans
 use Rattle.lists.proofs.ListScans as Lists

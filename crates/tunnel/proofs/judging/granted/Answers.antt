@@ -1,7 +1,6 @@
 -- Each side is a part of the state that keeps its rules, and where it stands is picked by the way: one call of `passes` serves both. Assumes nothing.
 use Prim.Native.Nat.{◌≤◌}
 use mathlib.Core.Path.{◌≡◌}
-use mathlib.Core.Logic.{⊎_elim}
 use native.Mathlib.Omega.{arith}
 use Rattle.policy.specs.Granted.{side_words}
 use Rattle.state.specs.State.{received_at, given_at}
@@ -13,15 +12,15 @@ use Rattle.tunnel.proofs.judging.granted.Goals.{Joined-sending, Joined-sending-2
 first-at : (c : Joined-sending) → c.if-sending.first ≡ first_at c.args.sending
 first-at c =
     elim c.if-sending.branch [
-      then-sending w ↦ picked received_at given_at w.if-sending.true w.first-is
-    | else-sending w ↦ picked received_at given_at w.if-sending.false w.first-is
+      | then-sending w ↦ picked received_at given_at w.if-sending.true w.first-is
+      | else-sending w ↦ picked received_at given_at w.if-sending.false w.first-is
     ]
 
 second_at_lem : (c : Joined-sending-2) → c.if-sending-2.second ≡ second_at c.args.sending
 second_at_lem c =
     elim c.if-sending-2.branch [
-      then-sending-2 w ↦ picked given_at received_at w.if-sending-2.true w.second-is
-    | else-sending-2 w ↦ picked given_at received_at w.if-sending-2.false w.second-is
+      | then-sending-2 w ↦ picked given_at received_at w.if-sending-2.true w.second-is
+      | else-sending-2 w ↦ picked given_at received_at w.if-sending-2.false w.second-is
     ]
 
 first-low : (c : Joined-sending) → c.if-sending.first ≤ side_words

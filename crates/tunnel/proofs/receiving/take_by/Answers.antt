@@ -4,7 +4,6 @@ use mathlib.Core.Path.{◌≡◌, refl, ap, sym, ◌∙◌}
 use mathlib.Core.Bool.{true}
 use native.Mathlib.Omega.{arith}
 use lib.ListN.{length}
-use borrow.Author.Tests.{not-false}
 use Rattle.table.specs.Limits.{static_limit}
 use Rattle.table.specs.Words.{template_of}
 use Rattle.table.specs.Templates.{static_size}
