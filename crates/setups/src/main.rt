@@ -9,10 +9,12 @@ mod sctp_flow; // figure 20
 mod site_to_site; // figure 18
 mod split_tunnel; // figure 16
 
-fn main() {
-    full_tunnel::run();
-    split_tunnel::run();
-    site_to_site::run();
-    sctp_flow::run();
-    connection_racing::run();
+use std::io;
+
+fn main(rt: HostRuntime) -> io::Result<()> {
+    full_tunnel::run(&rt)?;
+    split_tunnel::run(&rt)?;
+    site_to_site::run(&rt)?;
+    sctp_flow::run(&rt)?;
+    connection_racing::run(&rt)
 }
