@@ -5,6 +5,7 @@ ghost use Rattle.lists.specs.Words.{max_addresses, max_ranges};
 use capsule::MAX_VALUE;
 use capsule_write::CAPSULE_ROOM;
 use lists::{MAX_ADDRESSES, MAX_RANGES};
+use std::io;
 
 // The bytes of type and length, of an entry and of a range, all of IPv4.
 const HEAD: usize = 3;
@@ -17,42 +18,42 @@ const ENTRIES_ROOM: usize = HEAD + ENTRY * (MAX_ADDRESSES + 1);
 
 const RANGES_ROOM: usize = HEAD + RANGE * (MAX_RANGES + 1);
 
-pub(crate) fn limits() {
-    print::text(b"limits\n");
-    lists();
-    requests();
-    values();
-    outputs();
+pub(crate) fn limits(rt: &impl Print) -> io::Result<()> {
+    print::text(rt, b"limits\n")?;
+    lists(rt)?;
+    requests(rt)?;
+    values(rt)?;
+    outputs(rt)
 }
 
-fn lists() {
-    crate::capsule(b"32 addresses", &entries(1, MAX_ADDRESSES));
-    crate::capsule(b"33 addresses", &entries(1, MAX_ADDRESSES + 1));
-    crate::capsule(b"256 ranges", &ranges(MAX_RANGES));
-    crate::capsule(b"257 ranges", &ranges(MAX_RANGES + 1));
+fn lists(rt: &impl Print) -> io::Result<()> {
+    crate::capsule(rt, b"32 addresses", &entries(1, MAX_ADDRESSES))?;
+    crate::capsule(rt, b"33 addresses", &entries(1, MAX_ADDRESSES + 1))?;
+    crate::capsule(rt, b"256 ranges", &ranges(MAX_RANGES))?;
+    crate::capsule(rt, b"257 ranges", &ranges(MAX_RANGES + 1))
 }
 
-fn requests() {
-    crate::capsule(b"32 requests", &entries(2, MAX_ADDRESSES));
+fn requests(rt: &impl Print) -> io::Result<()> {
+    crate::capsule(rt, b"32 requests", &entries(2, MAX_ADDRESSES))?;
     let mut over = entries(2, MAX_ADDRESSES + 1);
-    crate::capsule(b"33 requests", &over);
+    crate::capsule(rt, b"33 requests", &over)?;
     over[HEAD + ENTRY * MAX_ADDRESSES] = 1;
-    crate::capsule(b"33 requests, the last ID repeated", &over);
+    crate::capsule(rt, b"33 requests, the last ID repeated", &over)
 }
 
-fn values() {
-    crate::capsule(b"datagram of 16384", &datagram(0));
-    crate::capsule(b"datagram of 16385", &datagram(1));
+fn values(rt: &impl Print) -> io::Result<()> {
+    crate::capsule(rt, b"datagram of 16384", &datagram(0))?;
+    crate::capsule(rt, b"datagram of 16385", &datagram(1))
 }
 
-fn outputs() {
+fn outputs(rt: &impl Print) -> io::Result<()> {
     let longest = [0u8; MAX_VALUE];
     let over = [0u8; MAX_VALUE + 1];
     let mut out = [0u8; CAPSULE_ROOM];
     let mut small = [0u8; CAPSULE_ROOM - 1];
-    written(b"16384 written to 16392", &longest, &mut out);
-    written(b"16384 written to 16391", &longest, &mut small);
-    written(b"16385 written to 16392", &over, &mut out);
+    written(rt, b"16384 written to 16392", &longest, &mut out)?;
+    written(rt, b"16384 written to 16391", &longest, &mut small)?;
+    written(rt, b"16385 written to 16392", &over, &mut out)
 }
 
 // A capsule of n entries, 192.0.2.1 and so on, with Request IDs 1 and so on; the length takes two bytes.
@@ -117,12 +118,12 @@ fn datagram(more: u8) -> [u8; MAX_VALUE + 6] {
     out
 }
 
-fn written(name: &[u8], value: &[u8], out: &mut [u8]) {
+fn written(rt: &impl Print, name: &[u8], value: &[u8], out: &mut [u8]) -> io::Result<()> {
     let a = capsule_write::write_datagram(value, out);
-    print::text(name);
-    print::text(b": number ");
-    print::decimal(a.number() as u64);
-    print::text(b" length ");
-    print::decimal(a.length() as u64);
-    print::text(b"\n");
+    print::text(rt, name)?;
+    print::text(rt, b": number ")?;
+    print::decimal(rt, a.number() as u64)?;
+    print::text(rt, b" length ")?;
+    print::decimal(rt, a.length() as u64)?;
+    print::text(rt, b"\n")
 }
