@@ -28,7 +28,7 @@ use Rattle.stream.proofs.StepLaws.{Open, store_open}
 use Rattle.stream.proofs.StoreLaws.{stored, length_stored, store_stored}
 use Rattle.stream.proofs.FeedLaws.{length_taken}
 use Rattle.van_box.specs.Sizes.{answer_head, answers_share}
-use Rattle.van_box.specs.Records.{Memory, memory, Step, step_of, stepped}
+use Rattle.van_box.specs.Records.{Memory, Step, step_of, stepped}
 use Rattle.van_box.proofs.Shares.{capsule-share, capsule-most}
 
 -- the bytes t were given to the store k, and the capsule c came to its end

@@ -215,3 +215,6 @@ module _ {y : Outcome Memory} {o r : Output} {before after : List ℕ} where
   -- the memory stays
   pub answers-alone : {a : List ℕ} {m : Memory} → y ≡ leaving a m → Appends a o before r after → Answers y o before r m after
   answers-alone e t = rw e (record { answers = t; left = refl })
+
+-- the cases of a record's kind, and what its function promises
+pub ruleset record_cases = (outcome_stream, outcome-plan, outcome-assign, outcome-advertise, outcome-request, outcome-packet, outcome-datagram, outcome-unknown, answers_as, answers-beside, answers-alone)

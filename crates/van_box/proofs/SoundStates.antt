@@ -178,7 +178,7 @@ outcome-sound kind m s b k =
     (pick-sound (eqb kind datagram_kind) (leaving (received_answer w s) m) (leaving unknown_answer m) k k))))))
 
 -- ---- records one after the other
-pub passed-sound : {m x : Memory} {s a : List ℕ} {at : ℕ} → Bytes s → Sound m → Passed m s at a x → Sound x
+pub passed-sound : {m : Memory} {s : List ℕ} → Bytes s → Sound m → {x : Memory} {a : List ℕ} {at : ℕ} → Passed m s at a x → Sound x
 passed-sound b k none = k
 passed-sound {s = s} b k (more {at} {x = y} t h) =
     outcome-sound (get_or (drop at s) 0 0) y (part (drop at s) record_head (record_size (drop at s) - record_head))

@@ -21,6 +21,7 @@ pub struct Stepped {
 }
 
 // The answers to a record.
+#[tactic(auto, using(crate::proofs::Outcomes::record_cases))]
 pub(crate) fn answer_record(
     state: &mut [u64; STATE_WORDS],
     kept: &mut [u8; KEPT_SIZE],

@@ -2,7 +2,7 @@
 ghost use Rattle.std.specs.Prelude.{◌≡◌, ◌<◌, ◌≤◌, length};
 ghost use Rattle.van_box.specs.Incoming.{Fills, Sized, Keeps};
 
-use libc::STDIN_FILENO;
+use std::io::Read;
 
 // The bytes of a record in front of its body.
 pub(crate) const RECORD_HEAD: usize = 3;
@@ -10,13 +10,16 @@ pub(crate) const RECORD_HEAD: usize = 3;
 // The most bytes of a body: two bytes hold their number.
 pub(crate) const MAX_RECORD: usize = 65535;
 
-// Reads once, behind what is held, and answers how many bytes are held then.
-pub(crate) fn fill(input: &mut [u8], held: usize) -> usize
+// Reads once, behind what is held, and answers how many bytes are held then: no more where the input ends, or cannot be read.
+pub(crate) fn fill(from: &mut impl Read, input: &mut [u8], held: usize) -> usize
     requires { held ≤ length input.old }
     ensures { Fills held input.old result input.new }
 {
-    let got = libc::read(STDIN_FILENO, &mut input[held..]);
-    held + io::count(got, &input[held..])
+    let got = from.read(&mut input[held..]);
+    match got {
+        Ok(more) => held + more,
+        Err(_) => held,
+    }
 }
 
 // How many bytes the record at a place takes: 0 where it is not all there.

@@ -19,6 +19,9 @@ use answers::answer_record;
 use incoming::{RECORD_HEAD, fill, keep, record_size};
 use outgoing::{Output, RECORD_ROOM, flush, put_unknown, with_room};
 use state::STATE_WORDS;
+use std::env::{Env, FillError};
+use std::io;
+use std::io::Read;
 use stream::KEPT_SIZE;
 
 // Two records of the most bytes fit, so that what is held of one never fills the input.
@@ -43,16 +46,20 @@ pub struct Answered {
     pub at: usize,
 }
 
-fn main() {
-    let count = os::arg_count();
-    if count > 1 {
-        says::explain(count);
-        return;
+fn main(rt: HostRuntime) -> io::Result<()> {
+    if has_arg(&rt, 1) {
+        return says::explain(&rt);
     }
-    run();
+    run(&mut rt.stdin(), &rt);
+    Ok(())
 }
 
-fn run() {
+// Whether the program was given so many arguments; the name that it was called by does not count.
+pub(crate) fn has_arg(rt: &impl Env, i: usize) -> bool {
+    !matches!(rt.arg(i, &mut []), Err(FillError::NotPresent))
+}
+
+fn run(from: &mut impl Read, to: &impl Print) {
     let mut input = [0u8; INPUT];
     let mut out = [0u8; OUTPUT];
     // All 0: no grants, no templates, no capsule open.
@@ -68,28 +75,32 @@ fn run() {
         if !now.open {
             break;
         }
-        now = turn(now, &mut state, &mut kept, &mut input, &mut out);
+        now = turn(from, to, now, &mut state, &mut kept, &mut input, &mut out);
         turns -= 1;
     }
 }
 
 // One read and its answers.
 fn turn(
+    from: &mut impl Read,
+    to: &impl Print,
     before: Between,
     state: &mut [u64; STATE_WORDS],
     kept: &mut [u8; KEPT_SIZE],
     input: &mut [u8; INPUT],
     out: &mut [u8; OUTPUT],
 ) -> Between
-    requires held_le_input_room { before.held ≤ input_room }
+    requires within { before.held ≤ input_room }
     requires sound { Sound (memory state.old kept.old) }
-    ensures held_le_input_room_2 { result.held ≤ input_room }
-    ensures sound_2 { Sound (memory state.new kept.new) }
+    ensures within { result.held ≤ input_room }
+    ensures sound { Sound (memory state.new kept.new) }
 {
-    answer_read(before, state, kept, input, out)
+    answer_read(from, to, before, state, kept, input, out)
 }
 
 fn answer_read(
+    from: &mut impl Read,
+    to: &impl Print,
     before: Between,
     state: &mut [u64; STATE_WORDS],
     kept: &mut [u8; KEPT_SIZE],
@@ -103,16 +114,16 @@ fn answer_read(
         (memory state.new kept.new) input.new }
 {
     let held = before.held;
-    let end = fill(input, held);
+    let end = fill(from, input, held);
     if end <= held {
-        end_of_input(held, out);
+        end_of_input(to, held, out);
         return Between {
             held: 0,
             open: false,
         };
     }
-    let after = answer_records(state, kept, &input[..end], out);
-    let output = flush(after.output, out);
+    let after = answer_records(to, state, kept, &input[..end], out);
+    let output = flush(to, after.output, out);
     let at = after.at;
     let left = keep(input, at, end);
     Between {
@@ -122,7 +133,7 @@ fn answer_read(
 }
 
 // A record that is cut by the end of the input gets an answer too.
-fn end_of_input(held: usize, out: &mut [u8])
+fn end_of_input(to: &impl Print, held: usize, out: &mut [u8])
     requires { answer_head ≤ length out.old }
 {
     if 0 < held {
@@ -131,12 +142,13 @@ fn end_of_input(held: usize, out: &mut [u8])
             open: true,
         };
         let output = put_unknown(none, out);
-        flush(output, out);
+        flush(to, output, out);
     }
 }
 
 // Answers every whole record of some bytes.
 fn answer_records(
+    to: &impl Print,
     state: &mut [u64; STATE_WORDS],
     kept: &mut [u8; KEPT_SIZE],
     bytes: &[u8],
@@ -160,7 +172,7 @@ fn answer_records(
         let kind = bytes[at];
         let start = at + RECORD_HEAD;
         let end = at + n;
-        let room = with_room(output, out);
+        let room = with_room(to, output, out);
         output = answer_record(state, kept, kind, &bytes[start..end], out, room);
         at = end;
     }

@@ -7,7 +7,6 @@ ghost use Rattle.van_box.specs.Outgoing.{unknown_answer, Appends, PutsHead, Flus
 use crate::incoming::MAX_RECORD;
 use answer::{Answer, Refusal};
 use capsule_write::CAPSULE_ROOM;
-use libc::STDOUT_FILENO;
 
 // The bytes of an answer in front of its body.
 pub(crate) const ANSWER_HEAD: usize = 4;
@@ -31,7 +30,7 @@ pub struct Output {
 }
 
 // Writes what waits.
-pub(crate) fn flush(output: Output, out: &mut [u8]) -> Output
+pub(crate) fn flush(to: &impl Print, output: Output, out: &mut [u8]) -> Output
     requires { output.used ≤ length out.old }
     ensures { Flushes output out.old result out.new }
 {
@@ -42,19 +41,19 @@ pub(crate) fn flush(output: Output, out: &mut [u8]) -> Output
             open: false,
         };
     }
-    let open = io::write_all(STDOUT_FILENO, &out[..used]);
+    let open = to.write_all(&out[..used]).is_ok();
     Output { used: 0, open }
 }
 
 // Room for the answers of a record behind what waits.
-pub(crate) fn with_room(output: Output, out: &mut [u8]) -> Output
+pub(crate) fn with_room(to: &impl Print, output: Output, out: &mut [u8]) -> Output
     requires used_in_bounds { output.used ≤ length out.old }
     requires record_room_in_bounds { record_room ≤ length out.old }
     ensures { MakesRoom output out.old result out.new }
 {
     let left = out.len() - output.used;
     if left < RECORD_ROOM {
-        return flush(output, out);
+        return flush(to, output, out);
     }
     output
 }

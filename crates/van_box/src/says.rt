@@ -1,23 +1,24 @@
 // What the program says of itself.
-use libc::{STDERR_FILENO, STDOUT_FILENO};
+use crate::has_arg;
+use std::env::Env;
+use std::io;
 
-// Room for an argument that asks for help. Of a longer one `os::arg` hands over nothing, which asks for none.
+// Room for an argument that asks for help; a longer one asks for none.
 const ARG_ROOM: usize = 8;
 
-// Answers the arguments, of which the program takes none but the one that asks for help. The count has the program's name among them.
-pub(crate) fn explain(count: usize) {
+// Answers the arguments, of which the program takes none but the one that asks for help.
+pub(crate) fn explain(rt: &HostRuntime) -> io::Result<()> {
     let mut arg = [0u8; ARG_ROOM];
-    let n = os::arg(1, &mut arg);
-    if count == 2 && options::is_help(&arg[..n]) {
-        help();
-        return;
+    if let Ok(n) = rt.arg(1, &mut arg) {
+        if !has_arg(rt, 2) && options::is_help(&arg[..n]) {
+            return help(rt);
+        }
     }
-    usage();
+    usage(&rt.stderr())
 }
 
-fn help() {
-    io::write_all(
-        STDOUT_FILENO,
+fn help(out: &impl Print) -> io::Result<()> {
+    out.write_all(
         b"usage: van_box <RECORDS >ANSWERS
 
 A record is one byte kind, two bytes length (big-endian) and that many bytes. Its
@@ -34,12 +35,9 @@ Example: scripts/trace <examples/sample.txt | target/bin/van_box | scripts/show
 There is no exit status: a script looks at the numbers of the answers.
 README.md says more, under \"The box as a filter\".
 ",
-    );
+    )
 }
 
-fn usage() {
-    io::write_all(
-        STDERR_FILENO,
-        b"usage: van_box <RECORDS >ANSWERS, or van_box --help\n",
-    );
+fn usage(err: &impl Print) -> io::Result<()> {
+    err.write_all(b"usage: van_box <RECORDS >ANSWERS, or van_box --help\n")
 }
