@@ -13,7 +13,7 @@ use state::STATE_WORDS;
 use stream::{Call, KEPT_SIZE};
 
 // The output after a call, how many of the bytes it took, and whether it handed a capsule out.
-#[derive(Drop)]
+#[derive(Clone, Copy)]
 pub struct Stepped {
     pub output: Output,
     pub taken: usize,

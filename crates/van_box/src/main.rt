@@ -33,14 +33,14 @@ const GATHERED: usize = 65536;
 const OUTPUT: usize = GATHERED + RECORD_ROOM;
 
 // The box between two reads: how many bytes of an unfinished record the input holds, and whether there is more to do.
-#[derive(Drop)]
+#[derive(Clone, Copy)]
 pub struct Between {
     pub held: usize,
     pub open: bool,
 }
 
 // The box after the records of some bytes: its output, and the place behind the last whole record.
-#[derive(Drop)]
+#[derive(Clone, Copy)]
 pub struct Answered {
     pub output: Output,
     pub at: usize,

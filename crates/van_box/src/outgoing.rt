@@ -23,7 +23,7 @@ const ANSWERS_SHARE: usize = 4;
 pub(crate) const RECORD_ROOM: usize = ANSWERS_SHARE * MAX_RECORD + 2 * ANSWER_ROOM;
 
 // How many bytes of answers wait at the front of the output, and whether it can be written.
-#[derive(Drop)]
+#[derive(Clone, Copy)]
 pub struct Output {
     pub used: usize,
     pub open: bool,
