@@ -6,7 +6,7 @@ use crate::check::{Outcome, While, SOON};
 use crate::ends::{Lab, Options, Rise, CLINIC_TUN, PLAIN, VAN_TUN};
 use crate::ensure;
 use crate::net::LINK;
-use crate::packets::{lowered, Flow, CLINIC4, CLINIC6, OUT4, OUT6, TCP, UDP, VAN4, VAN6};
+use crate::packets::{lowered, Flow, CLINIC4, CLINIC6, OUT4, OUT6, UDP, VAN4, VAN6};
 use crate::peer::{arrives, clinic_socket, Peer};
 use crate::plan::{both_ways, datagram, drivers, file, Template, PORTS};
 use crate::random::Random;
@@ -99,15 +99,6 @@ fn long_id() -> Vec<Template> {
     vec![Template { id: 1 << 61, segments: vec![(0, vec![0x45])], checksum: None }]
 }
 
-/// Whether a packet of the link is the stream's or the kernel's own: TCP, ICMP for IPv6 (of multicast groups behind a hop-by-hop header), ARP.
-fn beside(packet: &[u8]) -> bool {
-    match packet {
-        [first, ..] if first >> 4 == 4 => packet[9] == TCP,
-        [first, ..] if first >> 4 == 6 => [0, TCP, 58].contains(&packet[6]),
-        _ => true,
-    }
-}
-
 /// Without an mtu in the configuration the device has this one, and a packet of that length is one packet of the link.
 fn whole(lab: &Lab, plan: &[Template], link6: bool, mtu: usize) -> Outcome {
     let _ends = lab.start_both(&Options { plan, mtu: 0, link6, ..PLAIN })?;
@@ -120,12 +111,7 @@ fn whole(lab: &Lab, plan: &[Template], link6: bool, mtu: usize) -> Outcome {
     carry(&at_van, &at_clinic, std::slice::from_ref(&packet))?;
     let datagram = datagram(plan, &lowered(&packet));
     let expected = datagram.len() + if link6 { 48 } else { 28 };
-    let found = loop {
-        let found = on_link.next(SOON)?.ok_or("nothing on the link")?;
-        if !beside(&found) {
-            break found;
-        }
-    };
+    let found = on_link.next(SOON)?.ok_or("nothing on the link")?;
     ensure!(found.len() == expected && found.ends_with(&datagram), "{} bytes on the link, not {expected}", found.len());
     Ok(())
 }
