@@ -2,8 +2,8 @@
 
 use crate::check::{until, Outcome, While, SOON};
 use crate::ensure;
-use crate::net::{Space, LINK};
-use crate::packets::{lowered, Flow, TCP};
+use crate::net::Space;
+use crate::packets::{lowered, Flow};
 use crate::sys;
 use std::collections::HashMap;
 use std::io;
@@ -11,7 +11,6 @@ use std::net::UdpSocket;
 use std::time::{Duration, Instant};
 
 pub struct Tap {
-    device: String,
     listen: UdpSocket,
     v4: UdpSocket,
     v6: UdpSocket,
@@ -24,23 +23,13 @@ fn hex(bytes: &[u8]) -> String {
     bytes.iter().take(64).map(|byte| format!("{byte:02x}")).collect()
 }
 
-/// Whether a packet of the link is the stream's or the kernel's own, which come when they like: TCP, ICMP for IPv6 (of multicast groups behind a hop-by-hop
-/// header), ARP.
-fn beside(packet: &[u8]) -> bool {
-    match packet {
-        [first, ..] if first >> 4 == 4 => packet.get(9) == Some(&TCP),
-        [first, ..] if first >> 4 == 6 => packet.get(6).is_some_and(|next| [0, TCP, 58].contains(next)),
-        _ => true,
-    }
-}
-
 impl Tap {
     pub fn open(space: &Space, device: &str) -> Result<Tap, String> {
         let tap = space.within(|| {
             let listen = sys::packet_socket(device, sys::ETH_P_ALL)?;
             sys::receive_buffer(&listen, 1 << 22)?;
             let [v4, v6] = [sys::ETH_P_IP, sys::ETH_P_IPV6].map(|protocol| sys::packet_socket(device, protocol));
-            io::Result::Ok(Tap { device: device.to_string(), listen, v4: v4?, v6: v6? })
+            io::Result::Ok(Tap { listen, v4: v4?, v6: v6? })
         });
         tap.during(format!("capturing on {device}"))
     }
@@ -51,19 +40,8 @@ impl Tap {
         socket.send(packet).map(|_| ())
     }
 
-    /// The next packet that comes out of the program, if one does in time: on the link, the next datagram.
+    /// The next packet that comes out of the program, if one does in time.
     pub fn next(&self, limit: Duration) -> Result<Option<Vec<u8>>, String> {
-        let end = Instant::now() + limit;
-        loop {
-            let found = self.any(end.saturating_duration_since(Instant::now()))?;
-            match found {
-                Some(packet) if self.device == LINK && beside(&packet) => (),
-                found => return Ok(found),
-            }
-        }
-    }
-
-    fn any(&self, limit: Duration) -> Result<Option<Vec<u8>>, String> {
         let mut bytes = vec![0; 65_536];
         self.listen.set_read_timeout(Some(limit.max(Duration::from_millis(1)))).during("capture")?;
         match self.listen.recv(&mut bytes) {
