@@ -1,14 +1,10 @@
 -- The numbers that the box gives back.
-use Rattle.std.specs.Prelude.{ℕ, ◌<◌, ◌≡◌, refl, List, [], ◌∷◌, get_or}
+use Rattle.std.specs.Prelude.{ℕ, ◌<◌, ◌≡◌, refl, List, [], ◌∷◌, get_or, Result, Ok, Err}
 use Rattle.std.proofs.Common.{sym, ap, ◌∙◌, lit<}
 use Rattle.answer.specs.declared.Refusal.{Refusal}
 use Rattle.answer.specs.declared.Refusal.TheVariants.{Incomplete, TooLong, BadAddress, BadRange, RangesOutOfOrder, BadRequestId, TooMany}
 use Rattle.answer.specs.declared.Refusal.TheVariants.{BrokenState, BadForm, HopLimit, NotGranted, UnknownContext, CutDatagram, PacketTooLong, NoRoom}
 use Rattle.answer.specs.declared.Refusal.TheVariants.{PlanMark, PlanVersion, PlanCut, PlanRule, PlanNotShortest, PlanContext}
-use Rattle.answer.specs.declared.Answer.{Answer}
-use Rattle.answer.specs.declared.Answer.TheVariants.{Done, Refused}
-use Rattle.answer.specs.declared.Verdict.{Verdict}
-use Rattle.answer.specs.declared.Verdict.TheVariants.{Go, Stop}
 
 abbrev pub number_of : Refusal → ℕ
 number_of Incomplete = 1
@@ -33,20 +29,19 @@ number_of PlanRule = 23
 number_of PlanNotShortest = 24
 number_of PlanContext = 25
 
--- the number of an answer: 0 is done
-abbrev pub answer_number : Answer → ℕ
-answer_number (Done n) = 0
-answer_number (Refused r) = number_of r
+-- the number of an answer, whatever it gives: 0 is done
+abbrev pub answer_number : {A : Type 0} → Result A Refusal → ℕ
+answer_number (Ok n) = 0
+answer_number (Err r) = number_of r
 
--- the number of a verdict: 0 is `Go`
-abbrev pub verdict_number : Verdict → ℕ
-verdict_number Go = 0
-verdict_number (Stop r) = number_of r
+-- the number of a verdict: 0 is `Ok`
+abbrev pub verdict_number : Result Unit Refusal → ℕ
+verdict_number v = answer_number v
 
 -- how many bytes an answer says were written: a refusal's length is 0
-abbrev pub answer_length : Answer → ℕ
-answer_length (Done n) = n
-answer_length (Refused r) = 0
+abbrev pub answer_length : Result ℕ Refusal → ℕ
+answer_length (Ok n) = n
+answer_length (Err r) = 0
 
 -- the refusals in the order of their numbers, from 1 on; the numbers not in use are filled with the one before
 numbered : List Refusal

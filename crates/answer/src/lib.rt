@@ -1,12 +1,13 @@
-// What the box answers: the refusals with their numbers, the answer of an entry point that writes, and the verdict of one that judges.
+// What the box answers: the refusals with their numbers. An entry point that writes answers how many bytes it wrote or why it refused, a
+// `Result<usize, Refusal>`; one that judges answers a verdict, a `Result<(), Refusal>`: go on, or the first reason to refuse.
 // The numbers are those of the table "Numbers the box gives back"; 8 and 17 to 19 are not in it.
 #![tactic(auto)]
 
 ghost use Rattle.std.specs.Prelude.{◌≡◌};
-ghost use Rattle.answer.specs.Number.{number_of, verdict_number, answer_number, answer_length};
+ghost use Rattle.answer.specs.Number.{number_of, answer_number, answer_length};
 
 // A reason to refuse, one for each number.
-#[derive(Clone, Copy)]
+#[derive(Clone, Copy, Debug, PartialEq, Eq)]
 pub enum Refusal {
     // 1: a capsule, or a number read by itself, is not all there.
     Incomplete,
@@ -52,20 +53,6 @@ pub enum Refusal {
     PlanContext,
 }
 
-// What an entry point that writes answers: how many bytes it wrote, or why it refused.
-#[derive(Clone, Copy)]
-pub enum Answer {
-    Done(usize),
-    Refused(Refusal),
-}
-
-// What a judge says: go on, or the first reason to refuse.
-#[derive(Clone, Copy)]
-pub enum Verdict {
-    Go,
-    Stop(Refusal),
-}
-
 impl Refusal {
     pub fn number(self) -> u8
         ensures { result ≡ number_of self }
@@ -96,36 +83,19 @@ impl Refusal {
     }
 }
 
-impl Verdict {
-    // 0 where it goes on, and else the refusal's number.
-    pub fn number(self) -> u8
-        ensures { result ≡ verdict_number self }
-    {
-        match self {
-            Verdict::Go => 0,
-            Verdict::Stop(why) => why.number(),
-        }
+// The number of an answer: 0 where it is good, and else the refusal's number.
+pub fn number_of<T>(answer: &Result<T, Refusal>) -> u8
+    ensures { result ≡ answer_number answer.now }
+{
+    match answer {
+        Ok(_) => 0,
+        Err(why) => why.number(),
     }
 }
 
-impl Answer {
-    // 0 where it is done, and else the refusal's number.
-    pub fn number(self) -> u8
-        ensures { result ≡ answer_number self }
-    {
-        match self {
-            Answer::Done(_) => 0,
-            Answer::Refused(why) => why.number(),
-        }
-    }
-
-    // How many bytes were written: none on a refusal.
-    pub fn length(self) -> usize
-        ensures { result ≡ answer_length self }
-    {
-        match self {
-            Answer::Done(n) => n,
-            Answer::Refused(_) => 0,
-        }
-    }
+// How many bytes an entry point wrote: none on a refusal.
+pub fn length_of(answer: Result<usize, Refusal>) -> usize
+    ensures { result ≡ answer_length answer }
+{
+    answer.unwrap_or(0)
 }

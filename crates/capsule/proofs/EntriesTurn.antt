@@ -1,4 +1,5 @@
 -- The loop over entries: the words hold those read so far, which are parsed as in an assignment. A request's IDs are judged after it. Assumes nothing.
+use Rattle.std.proofs.Common.{Some, None, Ok}
 use Prim.Native.Nat.{ℕ, ◌+◌, ◌≤◌, ◌<◌}
 use mathlib.Core.Bool.{Bool, true, false, ◌&&◌}
 use mathlib.Core.Path.{◌≡◌, refl, sym, ap, ◌∙◌}
@@ -6,14 +7,12 @@ use mathlib.Core.List.{List, [], ◌∷◌, ◌++◌}
 use native.Mathlib.Omega.{arith}
 use lib.ListN.{length, drop, set, replicate, length-append}
 use Rattle.answer.specs.declared.Refusal.TheVariants.{BadAddress, BadRequestId, TooMany}
-use Rattle.answer.specs.declared.Verdict.TheVariants.{Go}
 use Rattle.lists.specs.declared.AddressEntry.{AddressEntry}
 use Rattle.lists.specs.Rules.{id_of}
 use Rattle.lists.specs.Words.{max_addresses, address_words, entry_words, put_entry, pack_entries}
 use Rattle.lists.proofs.Packing as Packing
-use Rattle.capsule.specs.declared.element.EntryRead.TheVariants.{Good, Bad}
 use Rattle.capsule.specs.Elements.{Parsed, fault, elements_in}
-use Rattle.capsule.specs.Entries.{read_entry, entry_element, entry_follows, entry_format}
+use Rattle.capsule.specs.Entries.{entry_read, read_entry, entry_element, entry_follows, entry_format}
 use Rattle.capsule.specs.RequestIds.{ids_in, ids_refused}
 use Rattle.capsule.specs.Results.{ReadsEntries}
 use Rattle.capsule.proofs.EntryCases as Entry
@@ -61,7 +60,7 @@ module _ (request : Bool) (s : List ℕ) (b : Bool) (j : b ≡ (request && ids_r
 
 module _ {request : Bool} {s words : List ℕ} {count at : ℕ} (i : Reading request s words count at) where
   module _ (g : at < length s) where
-    module _ (e : AddressEntry) (n : ℕ) (q : read_entry (drop at s) ≡ Good e n) where
+    module _ (e : AddressEntry) (n : ℕ) (q : read_entry (drop at s) ≡ Some (entry_read e n)) where
       -- whatever the words are, so long as they hold the entries
       turn : (w : List ℕ) → w ≡ 0 ∷ entry_words max_addresses (i.es ++ (e ∷ [])) → Reading request s w (count + 1) (at + n)
       unfolding entry_follows
@@ -88,7 +87,7 @@ module _ {request : Bool} {s words : List ℕ} {count at : ℕ} (i : Reading req
           turn words
           (i.stored ∙ ap (λ (l : List ℕ). 0 ∷ l) (sym (Packing.entry_words-full max_addresses i.es (e ∷ []) (omega (arith, i.counted)))))
 
-    module _ (q : read_entry (drop at s) ≡ Bad) where
+    module _ (q : read_entry (drop at s) ≡ None) where
       pub ids-before : length (ids_in s) ≡ count
       ids-before = ap length (sym (Ids.bad i.judging g q)) ∙ i.numbered
 
@@ -106,7 +105,7 @@ module _ {request : Bool} {s words : List ℕ} {count at : ℕ} (i : Reading req
     many h = T.many i.reading g (omega (arith, i.counted))
 
     pub fine : (b : Bool) → b ≡ (request && ids_refused (ids_in s)) → b ≡ false → count ≤ max_addresses → (count ≡ 0 → request ≡ false)
-        → ReadsEntries (elements_in (entry_format request) request max_addresses s) Go (set words 0 count)
+        → ReadsEntries (elements_in (entry_format request) request max_addresses s) (Ok tt) (set words 0 count)
     unfolding pack_entries
     fine b j p h z =
         reads_all (passed request s b j p (T.fine i.reading g (omega (arith, i.counted)) (λ e. z (i.counted ∙ e)))) (rw (i.stored, i.counted))

@@ -1,4 +1,5 @@
 -- Entries on bytes: what is written is read back, and what is read with a shortest Request ID is what is written. By the version. Assumes nothing.
+use Rattle.std.proofs.Common.{Option, Some, None}
 use Prim.Native.Nat.{ℕ, ◌+◌, ◌-◌, ◌^◌, ◌≤◌, ◌<◌}
 use mathlib.Core.Bool.{Bool, true, false}
 use mathlib.Core.Path.{◌≡◌, refl, sym, ap, ◌∙◌}
@@ -20,9 +21,8 @@ use Rattle.lists.specs.declared.AddressEntry.{AddressEntry}
 use Rattle.lists.specs.Rules.{id_of, address_of, sound_entry}
 use Rattle.lists.proofs.EntryRule as Rule
 use Rattle.capsule.specs.declared.element.EntryRead.{EntryRead}
-use Rattle.capsule.specs.declared.element.EntryRead.TheVariants.{Good, Bad}
 use Rattle.capsule.specs.Elements.{element}
-use Rattle.capsule.specs.Entries.{entry4, entry6, read_entry, read_body, entry_bytes, entry_element, entry_format}
+use Rattle.capsule.specs.Entries.{entry_read, entry4, entry6, read_entry, read_body, entry_bytes, entry_element, entry_format}
 use Rattle.capsule.specs.Sound.{is_word, entry_in_words}
 use Rattle.capsule.specs.Shortest.{shortest_front}
 use Rattle.capsule.proofs.EntryCases as Entry
@@ -52,12 +52,12 @@ module _ (e : AddressEntry) (s : sound_entry e ≡ true) (w : entry_in_words e �
       (ltb-true e.hi (2 ^ 64) b.0, ltb-true e.lo (2 ^ 64) b.1)
 
   module _ (n : ℕ) (rest : List ℕ) where
-    at-version : (v : ℕ) → e.version ≡ v → read_body (id_of e) n (body_at e v ++ rest) ≡ Good e (n + length (body_at e v))
-        → read_body (id_of e) n (body_bytes e ++ rest) ≡ Good e (n + length (body_bytes e))
+    at-version : (v : ℕ) → e.version ≡ v → read_body (id_of e) n (body_at e v ++ rest) ≡ Some (entry_read e (n + length (body_at e v)))
+        → read_body (id_of e) n (body_bytes e ++ rest) ≡ Some (entry_read e (n + length (body_bytes e)))
     at-version v q h =
-        ap (λ (x : ℕ). read_body (id_of e) n (body_at e x ++ rest)) q ∙ h ∙ ap (λ (x : ℕ). Good e (n + length (body_at e x))) (sym q)
+        ap (λ (x : ℕ). read_body (id_of e) n (body_at e x ++ rest)) q ∙ h ∙ ap (λ (x : ℕ). Some (entry_read e (n + length (body_at e x)))) (sym q)
 
-    body4 : e.version ≡ 4 → read_body (id_of e) n (body_bytes e ++ rest) ≡ Good e (n + length (body_bytes e))
+    body4 : e.version ≡ 4 → read_body (id_of e) n (body_bytes e ++ rest) ≡ Some (entry_read e (n + length (body_bytes e)))
     body4 v =
         let f = Rule.entry_facts e s in
         let a : address_of e < 2 ^ 32 = f.version.ipv4 v in
@@ -67,7 +67,7 @@ module _ (e : AddressEntry) (s : sound_entry e ≡ true) (w : entry_in_words e �
         let q : e ≡ entry4 (id_of e) t = entry-same e (entry4 (id_of e) t) refl v refl z (sym (Fields.big-digits 4 e.lo l)) in
         at-version 4 v (sym (Entry.case4 (id_of e) n t true e refl (omega arith) q s))
 
-    body6 : e.version ≡ 6 → read_body (id_of e) n (body_bytes e ++ rest) ≡ Good e (n + length (body_bytes e))
+    body6 : e.version ≡ 6 → read_body (id_of e) n (body_bytes e ++ rest) ≡ Some (entry_read e (n + length (body_bytes e)))
     body6 v =
         let h : e.hi < 256 ^ 8 = words.0 in
         let l : e.lo < 256 ^ 8 = words.1 in
@@ -76,10 +76,10 @@ module _ (e : AddressEntry) (s : sound_entry e ≡ true) (w : entry_in_words e �
         entry-same e (entry6 (id_of e) t) refl v refl (sym (Fields.big-digits 8 e.hi h)) (sym (Fields.big-digits 8 e.lo l)) in
         at-version 6 v (sym (Entry.case6 (id_of e) n t true e refl (omega arith) q s))
 
-    body : read_body (id_of e) n (body_bytes e ++ rest) ≡ Good e (n + length (body_bytes e))
+    body : read_body (id_of e) n (body_bytes e ++ rest) ≡ Some (entry_read e (n + length (body_bytes e)))
     body = ⊎_elim body4 body6 (Rule.entry_facts e s).version.known
 
-  pub read_entry_written : (rest : List ℕ) → read_entry (entry_bytes e ++ rest) ≡ Good e (length (entry_bytes e))
+  pub read_entry_written : (rest : List ℕ) → read_entry (entry_bytes e ++ rest) ≡ Some (entry_read e (length (entry_bytes e)))
   unfolding entry_bytes
   read_entry_written rest =
       let id = id_of e in
@@ -124,7 +124,7 @@ module _ (t : List ℕ) (h : Bytes t) where
   word id n e m (Entry.ipv6 v q w) =
       rw (← q, lt-ltb (big_at 1 8 t) (2 ^ 64) (Fields.field_bound t h 1 8)) (lt-ltb (big_at 9 8 t) (2 ^ 64) (Fields.field_bound t h 9 8))
 
-module _ (s : List ℕ) (e : AddressEntry) (m : ℕ) (h : Bytes s) (q : read_entry s ≡ Good e m) where
+module _ (s : List ℕ) (e : AddressEntry) (m : ℕ) (h : Bytes s) (q : read_entry s ≡ Some (entry_read e m)) where
   pub entry-words : entry_in_words e ≡ true
   entry-words = let t = Entry.taken s e m q in word (drop t.n s) (Big.bytes_drop t.n s h) t.id t.n e m t.body
 
@@ -154,9 +154,13 @@ entry-most e =
     short false = omega arith
 
 -- ---- the laws of the kind
-of_entry : (r : EntryRead) (a : AddressEntry) (n : ℕ) → entry_element r ≡ element a n → r ≡ Good a n
-of_entry (Good e m) a n q = let x : e ≡ a = cc in let y : m ≡ n = cc in rw (x, y)
-of_entry Bad a n q = let z : ◌≡◌ {A = ℕ} 0 1 = cc in absurd (omega arith)
+of_entry : (r : Option EntryRead) (a : AddressEntry) (n : ℕ) → entry_element r ≡ element a n → r ≡ Some (entry_read a n)
+of_entry (Some r) a n q =
+    let x : r.entry ≡ a = cc in
+    let y : r.size ≡ n = cc in
+    let z : Some (entry_read r.entry r.size) ≡ Some (entry_read a n) = rw (x, y) in
+    z
+of_entry None a n q = let z : ◌≡◌ {A = ℕ} 0 1 = cc in absurd (omega arith)
 
 pub entries_lawful : (request : Bool) → Lawful (entry_format request) entry_in_words shortest_front
 entries_lawful request =

@@ -1,5 +1,6 @@
 -- What the front of some bytes says of a capsule: one that was not all there ends behind the bytes that were there, and one of another type ends
 -- where type and length say. Assumes nothing.
+use Rattle.std.proofs.Common.{Option, Some, None}
 use Prim.Native.Nat.{ℕ, ◌+◌, ◌≤◌, ◌<◌}
 use mathlib.Core.Path.{◌≡◌, refl, sym, ap, ◌∙◌}
 use mathlib.Core.List.{List, [], ◌++◌}
@@ -11,14 +12,12 @@ use lib.Seq.{take-append-le, drop-append-le}
 use Rattle.answer.specs.declared.Refusal.TheVariants.{Incomplete}
 use Rattle.answer.proofs.Tests.{order}
 use Rattle.octets.specs.Big.{Bytes}
-use Rattle.varint.specs.declared.NumberRead.{NumberRead}
-use Rattle.varint.specs.declared.NumberRead.TheVariants.{Whole, Cut}
-use Rattle.varint.specs.Numbers.{read_number}
+use Rattle.varint.specs.declared.Number.{Number}
+use Rattle.varint.specs.Numbers.{read_number, number}
 use Rattle.varint.proofs.Reading as Number
-use Rattle.capsule.specs.declared.Head.{Head}
-use Rattle.capsule.specs.Heads.{head_length, head_type, head_of, HeadWithin}
+use Rattle.capsule.specs.Heads.{head, head_length, head_type, head_of, HeadWithin}
 use Rattle.capsule.specs.Capsules.{Capsule, unknown, refused, capsule, read_value, in_frame, frame_of, read_capsule}
-use Rattle.capsule.proofs.FrameCases as Frame
+use Rattle.capsule.proofs.FrameCases as Frames
 use Rattle.capsule.proofs.HeadLaws as Heads
 use Rattle.capsule.proofs.ReadFacts.{read_facts}
 use Rattle.capsule.proofs.RefusalLaws.{waits-frame, frame-waits}
@@ -30,14 +29,14 @@ nothing-there = refl
 
 -- ---- a capsule read from s ++ t that ends within s is there in s
 module _ (s t : List ℕ) where
-  number-front : (v n : ℕ) → read_number (s ++ t) ≡ Whole v n → n ≤ length s → read_number s ≡ Whole v n
+  number-front : (v n : ℕ) → read_number (s ++ t) ≡ Some (number v n) → n ≤ length s → read_number s ≡ Some (number v n)
   number-front v n e h = Number.read-front (s ++ t) s v n e (sym (take-append-le n s t h)) h
 
-  pub framed-front : (kind start size : ℕ) → Frame.Framed (s ++ t) kind start size → start + size ≤ length s → Frame.Framed s kind start size
+  pub framed-front : (kind start size : ℕ) → Frames.Framed (s ++ t) kind start size → start + size ≤ length s → Frames.Framed s kind start size
   framed-front kind start size f h =
       let a : f.n ≤ length s = omega (arith, f.starts) in
       let b : f.m ≤ length (drop f.n s) = simp length-drop (omega (arith, f.starts)) in
-      let e : read_number (drop f.n s ++ t) ≡ Whole size f.m = rw drop-append-le at f.count in
+      let e : read_number (drop f.n s ++ t) ≡ Some (number size f.m) = rw drop-append-le at f.count in
       record {
         n = f.n;
         m = f.m;
@@ -56,7 +55,7 @@ module _ (s t : List ℕ) where
       ⊎_elim (λ h. h)
       (λ h.
       let l : start + r.count ≤ length s = omega (arith, r.ends) in
-      let f = Frame.framed-frame (framed-front r.kind start r.count r.framed l) in
+      let f = Frames.framed-frame (framed-front r.kind start r.count r.framed l) in
       let q = waits-frame s e in
       let w : ◌≡◌ {A = ℕ} 0 1 = cc in absurd (omega arith))
       (order (length s) size)
@@ -67,13 +66,13 @@ module _ (s : List ℕ) (h : Bytes s) where
   unfolding head_of
   head-within = typed (read_number s) refl
     where
-      counted : (kind n : ℕ) → read_number s ≡ Whole kind n → (r : NumberRead) → read_number (drop n s) ≡ r → HeadWithin s (head_length kind n r)
-      counted kind n e (Whole size m) g = (Heads.known s h kind n size m e g).within
-      counted kind n e Cut g = (Heads.no_length s h kind n e g).within
+      counted : (kind n : ℕ) → read_number s ≡ Some (number kind n) → (r : Option Number) → read_number (drop n s) ≡ r → HeadWithin s (head_length kind n r)
+      counted kind n e (Some q) g = (Heads.known s h kind n q.value q.size e g).within
+      counted kind n e None g = (Heads.no_length s h kind n e g).within
 
-      typed : (r : NumberRead) → read_number s ≡ r → HeadWithin s (head_type s r)
-      typed (Whole kind n) e = counted kind n e (read_number (drop n s)) refl
-      typed Cut e = (Heads.no-type s h e).within
+      typed : (r : Option Number) → read_number s ≡ r → HeadWithin s (head_type s r)
+      typed (Some q) e = counted q.value q.size e (read_number (drop q.size s)) refl
+      typed None e = (Heads.no-type s h e).within
 
 -- ---- a capsule of another type
 pub other-value : (kind : ℕ) (v : List ℕ) (start end : ℕ) → 3 < kind → start + length v ≡ end → read_value kind v start ≡ capsule unknown start end
@@ -82,12 +81,12 @@ other-value kind v start end h e =
     rw (ne_eqb kind 0 (λ z. omega arith), ne_eqb kind 1 (λ z. omega arith), ne_eqb kind 2 (λ z. omega arith), ne_eqb kind 3 (λ z. omega arith))
     (ap (capsule unknown start) e)
 
-module _ (s : List ℕ) (kind start size : ℕ) (e : head_of s ≡ Head.Known kind start size) (other : 3 < kind) where
+module _ (s : List ℕ) (kind start size : ℕ) (e : head_of s ≡ Some (head kind start size)) (other : 3 < kind) where
   pub other-waits : length s < start + size → read_capsule s ≡ refused Incomplete
-  other-waits h = frame-waits s (Heads.frame-known s kind start size e ∙ sym (Frame.incomplete s kind start size (inl other) h))
+  other-waits h = frame-waits s (Heads.frame-known s kind start size e ∙ sym (Frames.incomplete s kind start size (inl other) h))
 
   pub other-ends : start + size ≤ length s → read_capsule s ≡ capsule unknown start (start + size)
   unfolding read_capsule
   other-ends h =
-      ap (in_frame s) (Heads.frame-known s kind start size e ∙ sym (Frame.whole s kind start size (inl other) h))
+      ap (in_frame s) (Heads.frame-known s kind start size e ∙ sym (Frames.whole s kind start size (inl other) h))
       ∙ other-value kind (take size (drop start s)) start (start + size) other (simp (length-take, length-drop) (omega arith))

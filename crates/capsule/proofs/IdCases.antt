@@ -1,4 +1,7 @@
 -- The Request ID of a good entry, by the code's cases: behind it stands the version, which says how many bytes the entry takes. Assumes nothing.
+use Rattle.std.proofs.Common.{Some}
+use Rattle.std.specs.Option.{IsSome}
+use borrow.Author.Rules.{rules}
 use Prim.Native.Nat.{ℕ, ◌+◌, ◌≤◌}
 use mathlib.Core.Path.{◌≡◌, sym, ap, ◌∙◌}
 use mathlib.Core.List.{List}
@@ -7,24 +10,22 @@ use native.Mathlib.Nat.{add-zero}
 use native.Mathlib.Omega.{arith}
 use lib.ListN.{length, get_or, drop}
 use lib.Seq.{get_or-drop}
-use Rattle.varint.specs.declared.NumberRead.TheVariants.{Whole, Cut}
-use Rattle.varint.specs.Numbers.{read_number}
+use Rattle.varint.proofs.Reading.{size_in}
+use Rattle.varint.specs.Numbers.{read_number, number, value_in}
 use Rattle.lists.specs.declared.AddressEntry.{AddressEntry}
 use Rattle.lists.specs.Rules.{id_of}
-use Rattle.capsule.specs.declared.element.EntryRead.TheVariants.{Good}
-use Rattle.capsule.specs.declared.element.IdRead.{IdRead}
-use Rattle.capsule.specs.Entries.{read_entry}
+use Rattle.capsule.specs.Entries.{entry_read, read_entry}
 use Rattle.capsule.specs.RequestIds.{GoodFront, ReadsId}
 use Rattle.capsule.proofs.EntryCases as Entry
 
-module _ (s : List ℕ) (id n : ℕ) (q : read_number s ≡ Whole id n) where
-  said : (e : AddressEntry) (m : ℕ) → read_entry s ≡ Good e m
+module _ (s : List ℕ) (id n : ℕ) (q : read_number s ≡ Some (number id n)) where
+  said : (e : AddressEntry) (m : ℕ) → read_entry s ≡ Some (entry_read e m)
       → (id ≡ id_of e) × (((get_or s n 0 ≡ 4) × (n + 6 ≡ m)) ⊎ ((get_or s n 0 ≡ 6) × (n + 18 ≡ m)))
   said e m h =
       let t = Entry.taken s e m h in
-      let p : Whole id n ≡ Whole t.id t.n = sym q ∙ t.number in
-      let a : t.id ≡ id = cc in
-      let b : t.n ≡ n = cc in
+      let p : Some (number id n) ≡ Some (number t.id t.n) = sym q ∙ t.number in
+      let a : t.id ≡ id = sym (ap value_in p) in
+      let b : t.n ≡ n = sym (ap size_in p) in
       of (rw (a, b) at t.body)
     where
       version : get_or (drop n s) 0 0 ≡ get_or s n 0
@@ -60,12 +61,5 @@ module _ (s : List ℕ) (id n : ℕ) (q : read_number s ≡ Whole id n) where
         ⊎_elim (λ w. absurd (v w.0)) (λ w. omega (arith, w.1, z.1)) (said g.entry g.size g.reading).1
 
 -- a good entry has an ID
-pub cut : (s : List ℕ) (r : IdRead) → read_number s ≡ Cut → ReadsId s r
-cut s r q = record { id = λ e m h. absurd (none e m h); size = λ e m h. absurd (none e m h) }
-  where
-    none : (e : AddressEntry) (m : ℕ) → read_entry s ≡ Good e m → ⊥
-    none e m h =
-        let t = Entry.taken s e m h in
-        let p : Cut ≡ Whole t.id t.n = sym q ∙ t.number in
-        let z : ◌≡◌ {A = ℕ} 0 1 = cc in
-        omega arith
+pub there : (s : List ℕ) → GoodFront s → IsSome (read_number s)
+there s g = rw (Entry.taken s g.entry g.size g.reading).number (search rules)

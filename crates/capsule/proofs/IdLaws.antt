@@ -1,4 +1,5 @@
 -- The first fault of a request: that of its Request IDs up to the first broken entry, or else that of the same entries as an assignment. Assumes nothing.
+use Rattle.std.proofs.Common.{Option, Some, None, Ok}
 use Prim.Native.Nat.{ℕ, zero, suc, ◌*◌, ◌≤◌}
 use mathlib.Core.Bool.{Bool, true, false, ◌&&◌, ◌||◌}
 use mathlib.Core.Path.{◌≡◌, refl, sym, ap, ◌∙◌}
@@ -8,7 +9,6 @@ use borrow.Author.Tests.{eqb-true, eqb-false, eq-eqb, ne_eqb}
 use lib.Dec.{eqb}
 use lib.ListN.{length, drop, length-drop}
 use Rattle.answer.specs.declared.Refusal.TheVariants.{BadRequestId}
-use Rattle.answer.specs.declared.Verdict.TheVariants.{Go}
 use Rattle.answer.specs.Choice.{pick}
 use Rattle.answer.specs.Verdict.{stop_if}
 use Rattle.octets.specs.Scan.{any_of}
@@ -16,7 +16,6 @@ use Rattle.distinct.specs.Repeats.{repeated}
 use Rattle.lists.specs.declared.AddressEntry.{AddressEntry}
 use Rattle.lists.specs.Rules.{id_of}
 use Rattle.capsule.specs.declared.element.EntryRead.{EntryRead}
-use Rattle.capsule.specs.declared.element.EntryRead.TheVariants.{Good, Bad}
 use Rattle.capsule.specs.Elements.{Parsed, fault, before, passing, after_element, parse, settled, elements_in}
 use Rattle.capsule.specs.Entries.{read_entry, entry_element, entry_follows, entry_format}
 use Rattle.capsule.specs.RequestIds.{ids_after, ids_from, ids_in, ids_refused}
@@ -84,7 +83,7 @@ follows-request : (earlier : List AddressEntry) (e : AddressEntry) (p : Parsed A
 unfolding entry_follows
 follows-request earlier e p = bad (eqb (id_of e) 0 || any_of (λ d. eqb (id_of d) (id_of e)) earlier)
   where
-    bad : (b : Bool) → passing (stop_if b BadRequestId Go) p ≡ pick b (fault BadRequestId) p
+    bad : (b : Bool) → passing (stop_if b BadRequestId (Ok tt)) p ≡ pick b (fault BadRequestId) p
     bad true = refl
     bad false = refl
 
@@ -111,11 +110,13 @@ parse_request_after (suc fuel) earlier others (b ∷ s) =
     after : ((ds es : List AddressEntry) (t : List ℕ)
         → parse (entry_format true) fuel ds t
         ≡ pick (refused_after (λ x. any_of (λ d. eqb (id_of d) x) ds) (ids_from fuel t)) (fault BadRequestId) (parse (entry_format false) fuel es t))
-        → (r : EntryRead)
+        → (r : Option EntryRead)
         → after_element (entry_format true) (parse (entry_format true) fuel) earlier (b ∷ s) (entry_element r)
         ≡ pick (refused_after (λ x. any_of (λ d. eqb (id_of d) x) earlier) (ids_after (ids_from fuel) (b ∷ s) r)) (fault BadRequestId)
         (after_element (entry_format false) (parse (entry_format false) fuel) others (b ∷ s) (entry_element r))
-    after ih (Good e n) =
+    after ih (Some r) =
+        let e = r.entry in
+        let n = r.size in
         rw (
           follows-request earlier e (before (e ∷ []) (parse (entry_format true) fuel (e ∷ earlier) (drop n (b ∷ s)))),
           follows-assign others e (before (e ∷ []) (parse (entry_format false) fuel (e ∷ others) (drop n (b ∷ s)))),
@@ -126,7 +127,7 @@ parse_request_after (suc fuel) earlier others (b ∷ s) =
         (refused_after (λ x. any_of (λ d. eqb (id_of d) x) (e ∷ earlier)) (ids_from fuel (drop n (b ∷ s))))
         e
         (parse (entry_format false) fuel (e ∷ others) (drop n (b ∷ s))))
-    after ih Bad = refl
+    after ih None = refl
 
 -- in a request the IDs are judged first, and then all else as in an assignment
 parse-entries : (request : Bool) (fuel : ℕ) (s : List ℕ)
@@ -158,11 +159,11 @@ length_ids zero s = omega arith
 length_ids (suc fuel) [] = omega arith
 length_ids (suc fuel) (b ∷ s) = after (λ t. length_ids fuel t) (read_entry (b ∷ s)) refl
   where
-    after : ((t : List ℕ) → min_entry * length (ids_from fuel t) ≤ length t) → (r : EntryRead) → read_entry (b ∷ s) ≡ r → min_entry * length (ids_after (ids_from fuel) (b ∷ s) r) ≤ length (b ∷ s)
-    after ih (Good e n) q =
-        let z = Entry.size (b ∷ s) e n q in
-        omega (arith, ih (drop n (b ∷ s)), z.0, z.1, length-drop n (b ∷ s))
-    after ih Bad q = omega arith
+    after : ((t : List ℕ) → min_entry * length (ids_from fuel t) ≤ length t) → (r : Option EntryRead) → read_entry (b ∷ s) ≡ r → min_entry * length (ids_after (ids_from fuel) (b ∷ s) r) ≤ length (b ∷ s)
+    after ih (Some r) q =
+        let z = Entry.size (b ∷ s) r.entry r.size q in
+        omega (arith, ih (drop r.size (b ∷ s)), z.0, z.1, length-drop r.size (b ∷ s))
+    after ih None q = omega arith
 
 -- no more than there is room for
 pub length_in : (s : List ℕ) → length s ≤ max_value → length (ids_in s) ≤ max_entries

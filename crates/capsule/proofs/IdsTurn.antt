@@ -1,4 +1,5 @@
 -- A turn of a loop that reads the Request IDs of a value: one ID more before those that are left to read. Assumes nothing.
+use Rattle.std.proofs.Common.{Option, Some, None}
 use Prim.Native.Nat.{ℕ, suc, ◌+◌, ◌-◌, ◌^◌, ◌≤◌, ◌<◌}
 use mathlib.Core.Bool.{true, false, or-true}
 use mathlib.Core.Path.{◌≡◌, refl, sym, ap, ◌∙◌}
@@ -18,20 +19,19 @@ use Rattle.distinct.proofs.CountLaws.{any_rising, repeated_rising}
 use Rattle.lists.specs.declared.AddressEntry.{AddressEntry}
 use Rattle.lists.specs.Rules.{id_of}
 use Rattle.capsule.specs.declared.element.EntryRead.{EntryRead}
-use Rattle.capsule.specs.declared.element.EntryRead.TheVariants.{Good, Bad}
 use Rattle.capsule.specs.declared.element.IdRead.{IdRead}
-use Rattle.capsule.specs.Entries.{read_entry}
+use Rattle.capsule.specs.Entries.{entry_read, read_entry}
 use Rattle.capsule.specs.RequestIds.{ids_after, ids_from, ids_in, ids_refused, GoodFront, ReadsId}
 use Rattle.capsule.specs.Capsules.{max_value}
 use Rattle.capsule.proofs.EntryCases as Entry
 
 module _ (fuel : ℕ) where
-  ids_next : (s : List ℕ) (e : AddressEntry) (n : ℕ) → 0 < length s → read_entry s ≡ Good e n → ids_from (suc fuel) s ≡ id_of e ∷ ids_from fuel (drop n s)
+  ids_next : (s : List ℕ) (e : AddressEntry) (n : ℕ) → 0 < length s → read_entry s ≡ Some (entry_read e n) → ids_from (suc fuel) s ≡ id_of e ∷ ids_from fuel (drop n s)
   unfolding ids_from
   ids_next [] e n h q = absurd (not-suc-le-zero h)
   ids_next (b ∷ s) e n h q = rw q
 
-  ids-bad : (s : List ℕ) → 0 < length s → read_entry s ≡ Bad → ids_from (suc fuel) s ≡ []
+  ids-bad : (s : List ℕ) → 0 < length s → read_entry s ≡ None → ids_from (suc fuel) s ≡ []
   unfolding ids_from
   ids-bad [] h q = absurd (not-suc-le-zero h)
   ids-bad (b ∷ s) h q = rw q
@@ -46,9 +46,9 @@ module _ (fuel : ℕ) where
   ids-front [] h = absurd (not-suc-le-zero h)
   ids-front (b ∷ s) h = of (read_entry (b ∷ s)) refl h
     where
-      of : (r : EntryRead) → read_entry (b ∷ s) ≡ r → 0 < length (ids_after (ids_from fuel) (b ∷ s) r) → GoodFront (b ∷ s)
-      of (Good e n) q g = record { entry = e; size = n; reading = q }
-      of Bad q g = absurd (not-suc-le-zero g)
+      of : (r : Option EntryRead) → read_entry (b ∷ s) ≡ r → 0 < length (ids_after (ids_from fuel) (b ∷ s) r) → GoodFront (b ∷ s)
+      of (Some r) q g = record { entry = r.entry; size = r.size; reading = q }
+      of None q g = absurd (not-suc-le-zero g)
 
 none_left : (l : List ℕ) → length l ≤ 0 → l ≡ []
 none_left [] h = refl
@@ -68,7 +68,7 @@ module _ {s ids : List ℕ} {at : ℕ} (i : Reading s ids at) where
     more : 0 < length (drop at s)
     more = simp length-drop (omega arith)
 
-    pub next : (e : AddressEntry) (n : ℕ) → read_entry (drop at s) ≡ Good e n → Reading s (ids ++ (id_of e ∷ [])) (at + n)
+    pub next : (e : AddressEntry) (n : ℕ) → read_entry (drop at s) ≡ Some (entry_read e n) → Reading s (ids ++ (id_of e ∷ [])) (at + n)
     next e n q =
         let z = Entry.size (drop at s) e n q in
         let l : length (ids ++ (id_of e ∷ [])) ≡ length ids + 1 = length-append ids (id_of e ∷ []) in
@@ -82,7 +82,7 @@ module _ {s ids : List ℕ} {at : ℕ} (i : Reading s ids at) where
               (rw (k, ids_next (suc (length s - (length ids + 1))) (drop at s) e n more q) at i.rest);
         }
 
-    pub bad : read_entry (drop at s) ≡ Bad → ids ≡ ids_in s
+    pub bad : read_entry (drop at s) ≡ None → ids ≡ ids_in s
     bad q = rw (ids-bad (length s - length ids) (drop at s) more q, append-nil) at i.rest
 
   pub ended : length s ≤ at → ids ≡ ids_in s

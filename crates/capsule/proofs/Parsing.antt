@@ -1,5 +1,6 @@
 -- Lists of elements of any kind, read and written: what is read keeps the rules, what is written is read back, and what is read in shortest
 -- form is what would be written. Each is an induction over the elements. Assumes nothing.
+use Rattle.std.proofs.Common.{Result, Ok, Err}
 use Prim.Native.Nat.{ℕ, zero, suc, ◌+◌, ◌*◌, ◌≤◌, ◌<◌}
 use mathlib.Core.Bool.{Bool, true, false, not}
 use mathlib.Core.Path.{◌≡◌, refl, ap, ◌∙◌}
@@ -12,8 +13,6 @@ use lib.ListN.{length, drop, length-append}
 use lib.Seq.{drop-append_seam}
 use Rattle.answer.specs.declared.Refusal.{Refusal}
 use Rattle.answer.specs.declared.Refusal.TheVariants.{TooMany}
-use Rattle.answer.specs.declared.Verdict.{Verdict}
-use Rattle.answer.specs.declared.Verdict.TheVariants.{Go, Stop}
 use Rattle.answer.specs.Verdict.{stop_if, ◌then◌}
 use Rattle.answer.proofs.Tests.{and_both}
 use Rattle.octets.specs.Big.{Bytes}
@@ -36,20 +35,20 @@ pub record Lawful {A : Type 0} (f : Format A) (words : A → Bool) (short : List
 -- ---- a list that was parsed: at its end, or an element and a parsed list behind it
 pub data Step {A : Type 0} (f : Format A) (fuel : ℕ) (earlier : List A) : List ℕ → List A → Type 0 where
   done : Step f fuel earlier [] []
-  more : {b : ℕ} {s : List ℕ} {a : A} {n : ℕ} {ys : List A} → f.read (b ∷ s) ≡ element a n → f.follows earlier a ≡ Go
+  more : {b : ℕ} {s : List ℕ} {a : A} {n : ℕ} {ys : List A} → f.read (b ∷ s) ≡ element a n → f.follows earlier a ≡ Ok tt
       → parse f fuel (a ∷ earlier) (drop n (b ∷ s)) ≡ all ys → Step f fuel earlier (b ∷ s) (a ∷ ys)
 
 module _ {A : Type 0} (f : Format A) (fuel : ℕ) (earlier : List A) where
-  behind : (b : ℕ) (s : List ℕ) (a : A) (n : ℕ) → f.read (b ∷ s) ≡ element a n → f.follows earlier a ≡ Go
+  behind : (b : ℕ) (s : List ℕ) (a : A) (n : ℕ) → f.read (b ∷ s) ≡ element a n → f.follows earlier a ≡ Ok tt
       → (p : Parsed A) → parse f fuel (a ∷ earlier) (drop n (b ∷ s)) ≡ p → (xs : List A) → before (a ∷ []) p ≡ all xs → Step f fuel earlier (b ∷ s) xs
   behind b s a n q g (fault r) e xs h = let z : ◌≡◌ {A = ℕ} 0 1 = cc in absurd (omega arith)
   behind b s a n q g (all ys) e xs h = let z : a ∷ ys ≡ xs = cc in rw (← z) (more q g e)
 
   ruled : (b : ℕ) (s : List ℕ) (a : A) (n : ℕ) → f.read (b ∷ s) ≡ element a n
-      → (v : Verdict) → f.follows earlier a ≡ v → (xs : List A)
+      → (v : Result Unit Refusal) → f.follows earlier a ≡ v → (xs : List A)
       → passing v (before (a ∷ []) (parse f fuel (a ∷ earlier) (drop n (b ∷ s)))) ≡ all xs → Step f fuel earlier (b ∷ s) xs
-  ruled b s a n q (Stop r) g xs h = let z : ◌≡◌ {A = ℕ} 0 1 = cc in absurd (omega arith)
-  ruled b s a n q Go g xs h = behind b s a n q g (parse f fuel (a ∷ earlier) (drop n (b ∷ s))) refl xs h
+  ruled b s a n q (Err r) g xs h = let z : ◌≡◌ {A = ℕ} 0 1 = cc in absurd (omega arith)
+  ruled b s a n q (Ok _) g xs h = behind b s a n q g (parse f fuel (a ∷ earlier) (drop n (b ∷ s))) refl xs h
 
   laid : (b : ℕ) (s : List ℕ) (r : Element A) → f.read (b ∷ s) ≡ r → (xs : List A)
       → after_element f (parse f fuel) earlier (b ∷ s) r ≡ all xs → Step f fuel earlier (b ∷ s) xs
@@ -66,31 +65,31 @@ unfolding parse
 parse-fuel f earlier s xs e = cc
 
 -- ---- the rules of a list
-judged_cons : (b : Bool) (r : Refusal) (v w : Verdict) → b ≡ true → v ≡ Go → w ≡ Go → stop_if (not b) r (v then w) ≡ Go
+judged_cons : (b : Bool) (r : Refusal) (v w : Result Unit Refusal) → b ≡ true → v ≡ Ok tt → w ≡ Ok tt → stop_if (not b) r (v then w) ≡ Ok tt
 judged_cons b r v w e g h = rw (e, g, h)
 
-pub stop-go : (b : Bool) (r : Refusal) (v : Verdict) → stop_if (not b) r v ≡ Go → (b ≡ true) × (v ≡ Go)
+pub stop-go : (b : Bool) (r : Refusal) (v : Result Unit Refusal) → stop_if (not b) r v ≡ Ok tt → (b ≡ true) × (v ≡ Ok tt)
 stop-go true r v h = (refl, h)
 stop-go false r v h = let z : ◌≡◌ {A = ℕ} 0 1 = cc in absurd (omega arith)
 
-then_go : (v w : Verdict) → (v then w) ≡ Go → (v ≡ Go) × (w ≡ Go)
-then_go Go w h = (refl, h)
-then_go (Stop r) w h = let z : ◌≡◌ {A = ℕ} 0 1 = cc in absurd (omega arith)
+then_go : (v w : Result Unit Refusal) → (v then w) ≡ Ok tt → (v ≡ Ok tt) × (w ≡ Ok tt)
+then_go (Ok _) w h = (refl, h)
+then_go (Err r) w h = let z : ◌≡◌ {A = ℕ} 0 1 = cc in absurd (omega arith)
 
 -- what judging a list that goes says of its first element and of the others
-pub judged-go : {A : Type 0} (f : Format A) (earlier : List A) (a : A) (xs : List A) → judged f earlier (a ∷ xs) ≡ Go
-    → (f.sound a ≡ true) × (f.follows earlier a ≡ Go) × (judged f (a ∷ earlier) xs ≡ Go)
+pub judged-go : {A : Type 0} (f : Format A) (earlier : List A) (a : A) (xs : List A) → judged f earlier (a ∷ xs) ≡ Ok tt
+    → (f.sound a ≡ true) × (f.follows earlier a ≡ Ok tt) × (judged f (a ∷ earlier) xs ≡ Ok tt)
 judged-go f earlier a xs h =
     let p = stop-go (f.sound a) f.wrong (f.follows earlier a then judged f (a ∷ earlier) xs) h in
     let q = then_go (f.follows earlier a) (judged f (a ∷ earlier) xs) p.1 in
     (p.0, q.0, q.1)
 
 -- a count that goes is within the limit
-count-go : {A : Type 0} (asked : Bool) (limit : ℕ) (xs : List A) → count_verdict asked limit (length xs) ≡ Go → length xs ≤ limit
+count-go : {A : Type 0} (asked : Bool) (limit : ℕ) (xs : List A) → count_verdict asked limit (length xs) ≡ Ok tt → length xs ≤ limit
 count-go asked limit [] h = omega arith
 count-go asked limit (x ∷ xs) h = within (leb (suc (length xs)) limit) refl h
   where
-    within : (b : Bool) → leb (suc (length xs)) limit ≡ b → stop_if (not b) TooMany Go ≡ Go → suc (length xs) ≤ limit
+    within : (b : Bool) → leb (suc (length xs)) limit ≡ b → stop_if (not b) TooMany (Ok tt) ≡ Ok tt → suc (length xs) ≤ limit
     within true e g = leb-true (suc (length xs)) limit e
     within false e g = let z : ◌≡◌ {A = ℕ} 0 1 = cc in absurd (omega arith)
 
@@ -104,17 +103,17 @@ module _ {A : Type 0} {f : Format A} {asked : Bool} {limit : ℕ} {xs : List A} 
 -- a list that is read whole
 module _ {A : Type 0} (f : Format A) (asked : Bool) (limit : ℕ) where
   read_all : (s : List ℕ) (xs : List A) → elements_in f asked limit s ≡ all xs
-      → (parse f (suc (length s)) [] s ≡ all xs) × (count_verdict asked limit (length xs) ≡ Go)
+      → (parse f (suc (length s)) [] s ≡ all xs) × (count_verdict asked limit (length xs) ≡ Ok tt)
   unfolding elements_in
   read_all s xs h = parsed (parse f (suc (length s)) [] s) refl h
     where
-      counted : (ys : List A) (v : Verdict) → count_verdict asked limit (length ys) ≡ v → passing v (all ys) ≡ all xs
-          → (ys ≡ xs) × (count_verdict asked limit (length xs) ≡ Go)
-      counted ys Go e g = let z : ys ≡ xs = cc in (z, rw z at e)
-      counted ys (Stop r) e g = let z : ◌≡◌ {A = ℕ} 0 1 = cc in absurd (omega arith)
+      counted : (ys : List A) (v : Result Unit Refusal) → count_verdict asked limit (length ys) ≡ v → passing v (all ys) ≡ all xs
+          → (ys ≡ xs) × (count_verdict asked limit (length xs) ≡ Ok tt)
+      counted ys (Ok _) e g = let z : ys ≡ xs = cc in (z, rw z at e)
+      counted ys (Err r) e g = let z : ◌≡◌ {A = ℕ} 0 1 = cc in absurd (omega arith)
 
       parsed : (p : Parsed A) → parse f (suc (length s)) [] s ≡ p → settled asked limit p ≡ all xs
-          → (parse f (suc (length s)) [] s ≡ all xs) × (count_verdict asked limit (length xs) ≡ Go)
+          → (parse f (suc (length s)) [] s ≡ all xs) × (count_verdict asked limit (length xs) ≡ Ok tt)
       parsed (fault r) e g = let z : ◌≡◌ {A = ℕ} 0 1 = cc in absurd (omega arith)
       parsed (all ys) e g =
           let w = counted ys (count_verdict asked limit (length ys)) refl g in
@@ -133,12 +132,12 @@ every_true A read (suc fuel) (b ∷ s) = after (λ t. every_true A read fuel t) 
 
 module _ {A : Type 0} {f : Format A} {words : A → Bool} {short : List ℕ → Bool} (l : Lawful f words short) where
   -- ---- what is read keeps the rules
-  parse-judged : (fuel : ℕ) (earlier : List A) (s : List ℕ) (xs : List A) → parse f fuel earlier s ≡ all xs → judged f earlier xs ≡ Go
+  parse-judged : (fuel : ℕ) (earlier : List A) (s : List ℕ) (xs : List A) → parse f fuel earlier s ≡ all xs → judged f earlier xs ≡ Ok tt
   parse-judged zero earlier s xs e = absurd (omega (arith, parse-fuel f earlier s xs e))
   parse-judged (suc fuel) earlier s xs e = step (λ later t ys h. parse-judged fuel later t ys h) s xs (parse-step f fuel earlier s xs e)
     where
-      step : ((later : List A) (t : List ℕ) (ys : List A) → parse f fuel later t ≡ all ys → judged f later ys ≡ Go)
-          → (t : List ℕ) (zs : List A) → Step f fuel earlier t zs → judged f earlier zs ≡ Go
+      step : ((later : List A) (t : List ℕ) (ys : List A) → parse f fuel later t ≡ all ys → judged f later ys ≡ Ok tt)
+          → (t : List ℕ) (zs : List A) → Step f fuel earlier t zs → judged f earlier zs ≡ Ok tt
       step again t zs done = refl
       step again t zs (more {b} {s} {a} {n} {ys} q g e) =
           judged_cons (f.sound a) f.wrong (f.follows earlier a) (judged f (a ∷ earlier) ys) (l.sound (b ∷ s) a n q) g
@@ -163,7 +162,7 @@ module _ {A : Type 0} {f : Format A} {words : A → Bool} {short : List ℕ → 
   read-words asked limit s xs h e = parse-words (suc (length s)) [] s xs h (read_all f asked limit s xs e).0
 
   -- ---- what is written is read back
-  parse-written : (fuel : ℕ) (earlier xs : List A) → length (written f xs) < fuel → judged f earlier xs ≡ Go → all_of words xs ≡ true
+  parse-written : (fuel : ℕ) (earlier xs : List A) → length (written f xs) < fuel → judged f earlier xs ≡ Ok tt → all_of words xs ≡ true
       → parse f fuel earlier (written f xs) ≡ all xs
   parse-written zero earlier xs h j w = absurd (not-suc-le-zero h)
   parse-written (suc fuel) earlier [] h j w = T.parse-end f fuel earlier [] (omega arith)

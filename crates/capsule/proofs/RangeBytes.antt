@@ -1,4 +1,5 @@
 -- Ranges on bytes: what is written is read back, and what is read is what is written. By the version. Assumes nothing.
+use Rattle.std.proofs.Common.{Option, Some, None}
 use Prim.Native.Nat.{ℕ, ◌^◌, ◌≤◌, ◌<◌}
 use mathlib.Core.Bool.{Bool, true, false, ◌&&◌}
 use mathlib.Core.Path.{◌≡◌, refl, sym, ap, ◌∙◌}
@@ -16,9 +17,8 @@ use Rattle.lists.specs.declared.RouteRange.{RouteRange}
 use Rattle.lists.specs.Rules.{end_of, sound_range}
 use Rattle.lists.proofs.RangeRule as Rule
 use Rattle.capsule.specs.declared.element.RangeRead.{RangeRead}
-use Rattle.capsule.specs.declared.element.RangeRead.TheVariants.{Good, Bad}
 use Rattle.capsule.specs.Elements.{element}
-use Rattle.capsule.specs.Entries.{range4, range6, read_range, range_bytes, range_element, range_format}
+use Rattle.capsule.specs.Entries.{range_read, range4, range6, read_range, range_bytes, range_element, range_format}
 use Rattle.capsule.specs.Sound.{is_word, range_in_words}
 use Rattle.capsule.proofs.RangeCases as Range
 use Rattle.capsule.proofs.Fields as Fields
@@ -68,13 +68,13 @@ bytes_at r v =
 
 -- ---- written, then read
 module _ (r : RouteRange) (s : sound_range r ≡ true) (w : range_in_words r ≡ true) (rest : List ℕ) where
-  at-version : (v : ℕ) → r.version ≡ v → read_range (bytes_at r v ++ rest) ≡ Good r (length (bytes_at r v))
-      → read_range (range_bytes r ++ rest) ≡ Good r (length (range_bytes r))
+  at-version : (v : ℕ) → r.version ≡ v → read_range (bytes_at r v ++ rest) ≡ Some (range_read r (length (bytes_at r v)))
+      → read_range (range_bytes r ++ rest) ≡ Some (range_read r (length (range_bytes r)))
   unfolding range_bytes
   at-version v q h =
-      ap (λ (x : ℕ). read_range (bytes_at r x ++ rest)) q ∙ h ∙ ap (λ (x : ℕ). Good r (length (bytes_at r x))) (sym q)
+      ap (λ (x : ℕ). read_range (bytes_at r x ++ rest)) q ∙ h ∙ ap (λ (x : ℕ). Some (range_read r (length (bytes_at r x)))) (sym q)
 
-  written4 : r.version ≡ 4 → read_range (range_bytes r ++ rest) ≡ Good r (length (range_bytes r))
+  written4 : r.version ≡ 4 → read_range (range_bytes r ++ rest) ≡ Some (range_read r (length (range_bytes r)))
   unfolding range_bytes
   written4 v =
       let f = Rule.range_facts r s in
@@ -89,7 +89,7 @@ module _ (r : RouteRange) (s : sound_range r ≡ true) (w : range_in_words r ≡
       range_same r (range4 t) v refl a (sym (Fields.big-digits 4 r.start_lo b)) c (sym (Fields.big-digits 4 r.end_lo d)) in
       at-version 4 v (sym (Range.case4 t true r refl (omega arith) q s))
 
-  written6 : r.version ≡ 6 → read_range (range_bytes r ++ rest) ≡ Good r (length (range_bytes r))
+  written6 : r.version ≡ 6 → read_range (range_bytes r ++ rest) ≡ Some (range_read r (length (range_bytes r)))
   unfolding range_bytes
   written6 v =
       let f = words_facts r w in
@@ -99,7 +99,7 @@ module _ (r : RouteRange) (s : sound_range r ≡ true) (w : range_in_words r ≡
       range_same r (range6 t) v refl (sym (Fields.big-digits 8 r.start_hi f.a)) (sym (Fields.big-digits 8 r.start_lo f.b)) (sym (Fields.big-digits 8 r.end_hi f.c)) (sym (Fields.big-digits 8 r.end_lo f.d)) in
       at-version 6 v (sym (Range.case6 t true r refl (omega arith) q s))
 
-  pub read_range_written : read_range (range_bytes r ++ rest) ≡ Good r (length (range_bytes r))
+  pub read_range_written : read_range (range_bytes r ++ rest) ≡ Some (range_read r (length (range_bytes r)))
   read_range_written = ⊎_elim written4 written6 (Rule.range_facts r s).version.known
 
 -- ---- read, then written
@@ -163,9 +163,13 @@ range_most r = short (eqb r.version 4)
     short false = omega arith
 
 -- ---- the laws of the kind
-of_range : (t : RangeRead) (a : RouteRange) (n : ℕ) → range_element t ≡ element a n → t ≡ Good a n
-of_range (Good r m) a n q = let x : r ≡ a = cc in let y : m ≡ n = cc in rw (x, y)
-of_range Bad a n q = let z : ◌≡◌ {A = ℕ} 0 1 = cc in absurd (omega arith)
+of_range : (t : Option RangeRead) (a : RouteRange) (n : ℕ) → range_element t ≡ element a n → t ≡ Some (range_read a n)
+of_range (Some r) a n q =
+    let x : r.range ≡ a = cc in
+    let y : r.size ≡ n = cc in
+    let z : Some (range_read r.range r.size) ≡ Some (range_read a n) = rw (x, y) in
+    z
+of_range None a n q = let z : ◌≡◌ {A = ℕ} 0 1 = cc in absurd (omega arith)
 
 pub ranges_lawful : Lawful range_format range_in_words (λ s. true)
 ranges_lawful =

@@ -1,4 +1,5 @@
 -- The loop over ranges: the words hold those read so far, and the last of them is the newest. Assumes nothing.
+use Rattle.std.proofs.Common.{Some, None, Ok, Err}
 use Prim.Native.Nat.{ℕ, ◌+◌, ◌≤◌, ◌<◌}
 use mathlib.Core.Bool.{true, false}
 use mathlib.Core.Path.{◌≡◌, refl, sym, ap, ◌∙◌}
@@ -6,24 +7,22 @@ use mathlib.Core.List.{List, [], ◌∷◌, ◌++◌}
 use native.Mathlib.Omega.{arith}
 use lib.ListN.{length, drop, set, replicate, length-append}
 use Rattle.answer.specs.declared.Refusal.TheVariants.{BadRange, RangesOutOfOrder, TooMany}
-use Rattle.answer.specs.declared.Verdict.TheVariants.{Go, Stop}
 use Rattle.lists.specs.declared.RouteRange.{RouteRange}
 use Rattle.lists.specs.Rules.{in_order, before_all}
 use Rattle.lists.specs.Words.{max_ranges, route_words, range_words, put_range, pack_ranges}
 use Rattle.lists.proofs.Packing as Packing
-use Rattle.capsule.specs.declared.element.RangeRead.TheVariants.{Good, Bad}
 use Rattle.capsule.specs.Elements.{fault, elements_in}
-use Rattle.capsule.specs.Entries.{read_range, range_element, newest, range_follows, range_format}
+use Rattle.capsule.specs.Entries.{range_read, read_range, range_element, newest, range_follows, range_format}
 use Rattle.capsule.specs.Results.{ReadsRanges}
 use Rattle.capsule.proofs.RangeCases as Range
 use Rattle.capsule.proofs.ListCases.{reads_all}
 use Rattle.capsule.proofs.Turn as T
 
-pub follows : (earlier : List RouteRange) (r : RouteRange) → in_order (newest earlier) r ≡ true → range_follows earlier r ≡ Go
+pub follows : (earlier : List RouteRange) (r : RouteRange) → in_order (newest earlier) r ≡ true → range_follows earlier r ≡ Ok tt
 unfolding range_follows
 follows earlier r o = rw o
 
-pub unordered : (earlier : List RouteRange) (r : RouteRange) → in_order (newest earlier) r ≡ false → range_follows earlier r ≡ Stop RangesOutOfOrder
+pub unordered : (earlier : List RouteRange) (r : RouteRange) → in_order (newest earlier) r ≡ false → range_follows earlier r ≡ Err RangesOutOfOrder
 unfolding range_follows
 unordered earlier r o = rw o
 
@@ -42,7 +41,7 @@ start s last f e =
 
 module _ {s words : List ℕ} {last : RouteRange} {count at : ℕ} (i : Reading s words last count at) where
   module _ (g : at < length s) where
-    module _ (r : RouteRange) (n : ℕ) (q : read_range (drop at s) ≡ Good r n) where
+    module _ (r : RouteRange) (n : ℕ) (q : read_range (drop at s) ≡ Some (range_read r n)) where
       -- whatever the words are, so long as they hold the ranges
       turn : (w : List ℕ) → w ≡ 0 ∷ range_words max_ranges (i.rs ++ (r ∷ [])) → in_order last r ≡ true → Reading s w r (count + 1) (at + n)
       turn w e o =
@@ -71,7 +70,7 @@ module _ {s words : List ℕ} {last : RouteRange} {count at : ℕ} (i : Reading 
       pub fault-order : in_order last r ≡ false → fault RangesOutOfOrder ≡ elements_in range_format false max_ranges s
       fault-order o = T.fault-rule i.reading g r n (ap range_element q) RangesOutOfOrder (unordered i.earlier r (rw i.ends at o))
 
-    pub fault_range : read_range (drop at s) ≡ Bad → fault BadRange ≡ elements_in range_format false max_ranges s
+    pub fault_range : read_range (drop at s) ≡ None → fault BadRange ≡ elements_in range_format false max_ranges s
     fault_range q = T.fault_layout i.reading g (ap range_element q)
 
   module _ (g : length s ≤ at) where
@@ -79,7 +78,7 @@ module _ {s words : List ℕ} {last : RouteRange} {count at : ℕ} (i : Reading 
     many h = T.many i.reading g (omega (arith, i.counted))
 
     pub fine : count ≤ max_ranges
-        → ReadsRanges (elements_in range_format false max_ranges s) Go (set words 0 count)
+        → ReadsRanges (elements_in range_format false max_ranges s) (Ok tt) (set words 0 count)
     unfolding pack_ranges
     fine h =
         reads_all (T.fine i.reading g (omega (arith, i.counted)) (λ e. refl)) (rw (i.stored, i.counted))

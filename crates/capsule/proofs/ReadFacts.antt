@@ -1,4 +1,6 @@
 -- What a capsule that was read says: its frame, its value by its type, and its size. Assumes nothing.
+use Rattle.std.proofs.Common.{Result}
+use Rattle.answer.specs.declared.Refusal.{Refusal}
 use Prim.Native.Nat.{ℕ, ◌+◌, ◌<◌}
 use mathlib.Core.Bool.{true, false}
 use mathlib.Core.Path.{◌≡◌, refl}
@@ -16,7 +18,7 @@ use Rattle.capsule.specs.Elements.{Parsed, fault, all, elements_in}
 use Rattle.capsule.specs.Entries.{entry_format, range_format}
 use Rattle.capsule.specs.Capsules.{Capsule, datagram, assign, request, advertise, unknown, capsule, listed, read_value, in_frame, frame_of, read_capsule}
 use Rattle.capsule.proofs.Picks.{pick_case}
-use Rattle.capsule.proofs.FrameCases as Frame
+use Rattle.capsule.proofs.FrameCases as Frames
 
 -- the capsule of a value v, by its type
 pub data Taken (kind : ℕ) (v : List ℕ) : Capsule → Type 0 where
@@ -64,12 +66,12 @@ module _ (kind : ℕ) (v : List ℕ) (start : ℕ) (c : Capsule) (a z : ℕ) whe
 pub record Read (s : List ℕ) (c : Capsule) (start size : ℕ) : Type 0 where
   pub kind : ℕ
   pub count : ℕ
-  pub framed : Frame.Framed s kind start count
+  pub framed : Frames.Framed s kind start count
   pub taken : Taken kind (take count (drop start s)) c
   pub ends : size ≡ start + count
 
 module _ (s : List ℕ) (c : Capsule) (a z : ℕ) where
-  whole : (kind start size : ℕ) → Frame.Framed s kind start size → read_value kind (take size (drop start s)) start ≡ capsule c a z → Read s c a z
+  whole : (kind start size : ℕ) → Frames.Framed s kind start size → read_value kind (take size (drop start s)) start ≡ capsule c a z → Read s c a z
   whole kind start size f e =
       let v = value_facts kind (take size (drop start s)) start c a z e in
       let l : length (take size (drop start s)) ≡ size = simp (length-take, length-drop) (omega (arith, f.there)) in
@@ -81,11 +83,11 @@ module _ (s : List ℕ) (c : Capsule) (a z : ℕ) where
         ends = omega (arith, v.starts, v.ends);
       }
 
-  of-frame : (r : FrameRead) → Frame.FrameCase s r → in_frame s r ≡ capsule c a z → Read s c a z
-  of-frame r (Frame.there {kind} {start} {size} f) e = whole kind start size f e
-  of-frame r (Frame.long q g h l) e = let w : ◌≡◌ {A = ℕ} 0 1 = cc in absurd (omega arith)
-  of-frame r Frame.lacking e = let w : ◌≡◌ {A = ℕ} 0 1 = cc in absurd (omega arith)
+  of-frame : (r : Result FrameRead Refusal) → Frames.FrameCase s r → in_frame s r ≡ capsule c a z → Read s c a z
+  of-frame r (Frames.there {kind} {start} {size} f) e = whole kind start size f e
+  of-frame r (Frames.long q g h l) e = let w : ◌≡◌ {A = ℕ} 0 1 = cc in absurd (omega arith)
+  of-frame r Frames.lacking e = let w : ◌≡◌ {A = ℕ} 0 1 = cc in absurd (omega arith)
 
   pub read_facts : read_capsule s ≡ capsule c a z → Read s c a z
   unfolding read_capsule
-  read_facts e = of-frame (frame_of s) (Frame.frame_case s) e
+  read_facts e = of-frame (frame_of s) (Frames.frame_case s) e

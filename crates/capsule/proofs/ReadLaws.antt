@@ -1,4 +1,5 @@
 -- Laws of reading a capsule: what is taken lies within the bytes, keeps the rules, and does not change when bytes are appended. Assumes nothing.
+use Rattle.std.proofs.Common.{Result, Ok, Err}
 use Prim.Native.Nat.{ℕ, ◌+◌, ◌≤◌}
 use mathlib.Core.Bool.{Bool, true, false}
 use mathlib.Core.Path.{◌≡◌, refl, sym, ◌∙◌}
@@ -7,17 +8,18 @@ use native.Mathlib.Omega.{arith}
 use lib.Dec.{ltb}
 use lib.ListN.{length, take, drop, length-take, length-drop}
 use lib.Seq.{take-append-le, drop-append-le}
+use Rattle.answer.specs.declared.Refusal.{Refusal}
 use Rattle.answer.specs.declared.Refusal.TheVariants.{Incomplete, TooLong, RangesOutOfOrder}
-use Rattle.answer.specs.declared.Verdict.TheVariants.{Go}
 use Rattle.answer.specs.Choice.{pick}
 use Rattle.varint.proofs.Reading as Number
 use Rattle.octets.specs.Big.{Bytes}
 use Rattle.octets.proofs.BigLaws as Big
 use Rattle.lists.specs.declared.AddressEntry.{AddressEntry}
 use Rattle.lists.specs.declared.RouteRange.{RouteRange}
+use Rattle.lists.specs.declared.WordList.{WordList}
 use Rattle.octets.specs.Scan.{all_of}
 use Rattle.lists.specs.Rules.{sound_entry, in_order, before_all, sound_after}
-use Rattle.lists.specs.Words.{max_addresses, max_ranges, entries_of, ranges_of, sound_addresses, sound_routes, pack_entries, pack_ranges}
+use Rattle.lists.specs.Words.{max_addresses, max_ranges, entries_of, ranges_of, sound_addresses, sound_routes, no_addresses, no_routes, pack_entries, pack_ranges, address_words, route_words}
 use Rattle.lists.proofs.ListScans.{facts_addresses, facts_routes}
 use Rattle.lists.proofs.Views as Views
 use Rattle.capsule.specs.declared.FrameRead.{FrameRead}
@@ -26,7 +28,7 @@ use Rattle.capsule.specs.Entries.{entry_format, range_format, range_follows, new
 use Rattle.capsule.specs.Capsules.{max_value, Capsule, entries_in, ranges_in, Reading, refused, capsule, in_frame, frame_of, read_capsule}
 use Rattle.capsule.specs.Results.{entries_result, ranges_result}
 use Rattle.capsule.specs.Sound.{Ruled, Sound, sound-datagram, sound-assign, sound-request, sound-advertise, sound-unknown, entry_in_words, range_in_words, in_words}
-use Rattle.capsule.proofs.FrameCases as Frame
+use Rattle.capsule.proofs.FrameCases as Frames
 use Rattle.capsule.proofs.Parsing as Parsing
 use Rattle.capsule.proofs.EntryBytes.{entries_lawful}
 use Rattle.capsule.proofs.RangeBytes.{ranges_lawful}
@@ -74,17 +76,17 @@ module _ (s : List ℕ) (c : Capsule) (start size : ℕ) (e : read_capsule s ≡
       (Big.bytes_take r.count (drop start s) (Big.bytes_drop start s h)) r.taken
 
 -- entries that keep the rules are sound; so are ranges, and in order
-judged-entries : (asked : Bool) (earlier es : List AddressEntry) → judged (entry_format asked) earlier es ≡ Go → all_of sound_entry es ≡ true
+judged-entries : (asked : Bool) (earlier es : List AddressEntry) → judged (entry_format asked) earlier es ≡ Ok tt → all_of sound_entry es ≡ true
 judged-entries asked earlier [] h = refl
 judged-entries asked earlier (e ∷ es) h =
     let g = Parsing.judged-go (entry_format asked) earlier e es h in
     rw g.0 (judged-entries asked (e ∷ earlier) es g.2)
 
-follows-order : (earlier : List RouteRange) (r : RouteRange) → range_follows earlier r ≡ Go → in_order (newest earlier) r ≡ true
+follows-order : (earlier : List RouteRange) (r : RouteRange) → range_follows earlier r ≡ Ok tt → in_order (newest earlier) r ≡ true
 unfolding range_follows
-follows-order earlier r h = (Parsing.stop-go (in_order (newest earlier) r) RangesOutOfOrder Go h).0
+follows-order earlier r h = (Parsing.stop-go (in_order (newest earlier) r) RangesOutOfOrder (Ok tt) h).0
 
-judged-ranges : (earlier rs : List RouteRange) → judged range_format earlier rs ≡ Go → sound_after (newest earlier) rs ≡ true
+judged-ranges : (earlier rs : List RouteRange) → judged range_format earlier rs ≡ Ok tt → sound_after (newest earlier) rs ≡ true
 judged-ranges earlier [] h = refl
 judged-ranges earlier (r ∷ rs) h =
     let g = Parsing.judged-go range_format earlier r rs h in
@@ -135,9 +137,18 @@ module _ (v : List ℕ) where
     unfolding ranges_in
     ranges_in_words h = Parsing.read-words ranges_lawful false max_ranges v rs h (within-limit (ltb max_value (length v)) _ rs e)
 
--- the list that is handed back holds what was read and is sound: with a refusal it is empty
+-- the list that is handed back, and with a refusal an empty one
+abbrev pub addresses_in : Result (WordList address_words) Refusal → WordList address_words
+addresses_in (Ok l) = l
+addresses_in (Err r) = no_addresses
+
+abbrev pub routes_in : Result (WordList route_words) Refusal → WordList route_words
+routes_in (Ok l) = l
+routes_in (Err r) = no_routes
+
+-- it holds what was read and is sound
 module _ (v : List ℕ) where
-  entries-handed : (asked : Bool) (p : Parsed AddressEntry) → entries_in asked v ≡ p → entries_of (entries_result p).list.words ≡ elements_of p
+  entries-handed : (asked : Bool) (p : Parsed AddressEntry) → entries_in asked v ≡ p → entries_of (addresses_in (entries_result p)).words ≡ elements_of p
   entries-handed asked (fault r) e = Views.entries_none
   entries-handed asked (all es) e = entries_packed asked es (entries-ruled v asked es e)
 
@@ -146,7 +157,7 @@ module _ (v : List ℕ) where
   entries-good asked (fault r) e = refl
   entries-good asked (all es) e = addresses-sound asked es (entries-ruled v asked es e)
 
-  ranges-handed : (p : Parsed RouteRange) → ranges_in v ≡ p → ranges_of (ranges_result p).list.words ≡ elements_of p
+  ranges-handed : (p : Parsed RouteRange) → ranges_in v ≡ p → ranges_of (routes_in (ranges_result p)).words ≡ elements_of p
   ranges-handed (fault r) e = Views.ranges-none
   ranges-handed (all rs) e = ranges_packed rs (ranges-ruled v rs e)
 
@@ -155,10 +166,10 @@ module _ (v : List ℕ) where
   ranges-good (fault r) e = refl
   ranges-good (all rs) e = routes-sound rs (ranges-ruled v rs e)
 
-  pub entries-held : (asked : Bool) → entries_of (entries_result (entries_in asked v)).list.words ≡ elements_of (entries_in asked v)
+  pub entries-held : (asked : Bool) → entries_of (addresses_in (entries_result (entries_in asked v))).words ≡ elements_of (entries_in asked v)
   entries-held asked = entries-handed asked (entries_in asked v) refl
 
-  pub ranges-held : ranges_of (ranges_result (ranges_in v)).list.words ≡ elements_of (ranges_in v)
+  pub ranges-held : ranges_of (routes_in (ranges_result (ranges_in v))).words ≡ elements_of (ranges_in v)
   ranges-held = ranges-handed (ranges_in v) refl
 
   pub lists-sound : ((asked : Bool) → sound_addresses (elements_of (entries_in asked v)) ≡ true) × (sound_routes (elements_of (ranges_in v)) ≡ true)
@@ -172,14 +183,14 @@ module _ (s t : List ℕ) where
       let b : size ≤ length (drop start s) = simp length-drop (omega arith) in
       rw (drop-append-le start s t a) (take-append-le size (drop start s) t b)
 
-  more : (r : FrameRead) → Frame.FrameCase s r → (in_frame s r ≡ refused Incomplete → ⊥) → read_capsule (s ++ t) ≡ in_frame s r
+  more : (r : Result FrameRead Refusal) → Frames.FrameCase s r → (in_frame s r ≡ refused Incomplete → ⊥) → read_capsule (s ++ t) ≡ in_frame s r
   unfolding read_capsule
-  more r (Frame.there {kind} {start} {size} f) h =
-      rw (Frame.framed-frame (Frame.framed_append s t kind start size f), same-value start size f.there)
-  more r (Frame.long {kind} {n} {size} {m} e g k l) h = rw (Frame.long_append s t kind n size m e g k l)
-  more r Frame.lacking h = absurd (h refl)
+  more r (Frames.there {kind} {start} {size} f) h =
+      rw (Frames.framed-frame (Frames.framed_append s t kind start size f), same-value start size f.there)
+  more r (Frames.long {kind} {n} {size} {m} e g k l) h = rw (Frames.long_append s t kind n size m e g k l)
+  more r Frames.lacking h = absurd (h refl)
 
   -- an answer other than `Incomplete` stays as it is
   pub read_more : (r : Reading) → read_capsule s ≡ r → (r ≡ refused Incomplete → ⊥) → read_capsule (s ++ t) ≡ r
   unfolding read_capsule
-  read_more r e h = more (frame_of s) (Frame.frame_case s) (λ q. h (sym e ∙ q)) ∙ e
+  read_more r e h = more (frame_of s) (Frames.frame_case s) (λ q. h (sym e ∙ q)) ∙ e

@@ -1,4 +1,5 @@
 -- The refusals of reading: 1 is of the frame alone, and every other is 2 to 7. Assumes nothing.
+use Rattle.std.proofs.Common.{Result, Ok, Err}
 use Prim.Native.Nat.{ℕ, zero, suc, ◌+◌, ◌≤◌}
 use mathlib.Core.Bool.{Bool, true, false, not, ◌&&◌, ◌||◌}
 use mathlib.Core.Path.{◌≡◌, refl, sym, ap, ◌∙◌}
@@ -9,8 +10,6 @@ use lib.Dec.{leb, eqb}
 use lib.ListN.{length, take, drop}
 use Rattle.answer.specs.declared.Refusal.{Refusal}
 use Rattle.answer.specs.declared.Refusal.TheVariants.{Incomplete, TooLong, RangesOutOfOrder, BadRequestId, TooMany}
-use Rattle.answer.specs.declared.Verdict.{Verdict}
-use Rattle.answer.specs.declared.Verdict.TheVariants.{Go, Stop}
 use Rattle.answer.specs.Verdict.{stop_if}
 use Rattle.answer.specs.Number.{number_of}
 use Rattle.octets.specs.Scan.{any_of}
@@ -19,12 +18,11 @@ use Rattle.lists.specs.declared.RouteRange.{RouteRange}
 use Rattle.lists.specs.Rules.{id_of, in_order}
 use Rattle.lists.specs.Words.{max_addresses, max_ranges}
 use Rattle.capsule.specs.declared.FrameRead.{FrameRead}
-use Rattle.capsule.specs.declared.FrameRead.TheVariants as F
 use Rattle.capsule.specs.Elements.{Element, element, broken, Format, Parsed, fault, all, before, passing, after_element, parse, count_verdict, settled, elements_in}
 use Rattle.capsule.specs.Entries.{entry_follows, newest, range_follows, entry_format, range_format}
 use Rattle.capsule.specs.Capsules.{Capsule, datagram, assign, request, advertise, unknown, refused, capsule, listed, read_value, in_frame, frame_of, read_capsule}
 use Rattle.capsule.proofs.Picks.{pick_case}
-use Rattle.capsule.proofs.FrameCases as Frame
+use Rattle.capsule.proofs.FrameCases as Frames
 
 -- the refusals other than 1 that a capsule earns
 abbrev pub Faulty : Refusal → Type 0
@@ -33,11 +31,11 @@ Faulty r = (2 ≤ number_of r) × (number_of r ≤ 7)
 as_faulty : (a r : Refusal) → Faulty a → a ≡ r → Faulty r
 as_faulty a r h e = rw e at h
 
-stopped : (b : Bool) (a r : Refusal) → stop_if b a Go ≡ Stop r → Faulty a → Faulty r
+stopped : (b : Bool) (a r : Refusal) → stop_if b a (Ok tt) ≡ Err r → Faulty a → Faulty r
 stopped true a r e h = as_faulty a r h (cc)
 stopped false a r e h = let y : ◌≡◌ {A = ℕ} 0 1 = cc in absurd (omega arith)
 
-count_faulty : (asked : Bool) (limit n : ℕ) (r : Refusal) → count_verdict asked limit n ≡ Stop r → Faulty r
+count_faulty : (asked : Bool) (limit n : ℕ) (r : Refusal) → count_verdict asked limit n ≡ Err r → Faulty r
 count_faulty asked limit zero r e = stopped asked BadRequestId r e (omega arith, omega arith)
 count_faulty asked limit (suc n) r e = stopped (not (leb (suc n) limit)) TooMany r e (omega arith, omega arith)
 
@@ -46,11 +44,11 @@ module _ {A : Type 0} where
   of-before xs (fault q) r e = e
   of-before xs (all ys) r e = let y : ◌≡◌ {A = ℕ} 0 1 = cc in absurd (omega arith)
 
-  of-passing : (v : Verdict) (p : Parsed A) (r : Refusal) → passing v p ≡ fault r → (v ≡ Stop r) ⊎ (p ≡ fault r)
-  of-passing Go p r e = inr e
-  of-passing (Stop q) p r e = let z : q ≡ r = cc in inl (ap Stop z)
+  of-passing : (v : Result Unit Refusal) (p : Parsed A) (r : Refusal) → passing v p ≡ fault r → (v ≡ Err r) ⊎ (p ≡ fault r)
+  of-passing (Ok _) p r e = inr e
+  of-passing (Err q) p r e = let z : q ≡ r = cc in inl (ap Err z)
 
-  module _ (f : Format A) (w : Faulty f.wrong) (v : (earlier : List A) (a : A) (r : Refusal) → f.follows earlier a ≡ Stop r → Faulty r) where
+  module _ (f : Format A) (w : Faulty f.wrong) (v : (earlier : List A) (a : A) (r : Refusal) → f.follows earlier a ≡ Err r → Faulty r) where
     parse_faulty : (fuel : ℕ) (earlier : List A) (s : List ℕ) (r : Refusal) → parse f fuel earlier s ≡ fault r → Faulty r
     unfolding parse
     parse_faulty zero earlier s r e = as_faulty f.wrong r w (cc)
@@ -73,11 +71,11 @@ module _ {A : Type 0} where
             ⊎_elim (λ h. count_faulty asked limit (length xs) r h) (λ h. let y : ◌≡◌ {A = ℕ} 0 1 = cc in absurd (omega arith))
             (of-passing (count_verdict asked limit (length xs)) (all xs) r e)
 
-entry_faulty : (asked : Bool) (earlier : List AddressEntry) (a : AddressEntry) (r : Refusal) → entry_follows asked earlier a ≡ Stop r → Faulty r
+entry_faulty : (asked : Bool) (earlier : List AddressEntry) (a : AddressEntry) (r : Refusal) → entry_follows asked earlier a ≡ Err r → Faulty r
 unfolding entry_follows
 entry_faulty asked earlier a r e = stopped (asked && (eqb (id_of a) 0 || any_of (λ d. eqb (id_of d) (id_of a)) earlier)) BadRequestId r e (omega arith, omega arith)
 
-range_faulty : (earlier : List RouteRange) (a : RouteRange) (r : Refusal) → range_follows earlier a ≡ Stop r → Faulty r
+range_faulty : (earlier : List RouteRange) (a : RouteRange) (r : Refusal) → range_follows earlier a ≡ Err r → Faulty r
 unfolding range_follows
 range_faulty earlier a r e = stopped (not (in_order (newest earlier) a)) RangesOutOfOrder r e (omega arith, omega arith)
 
@@ -107,20 +105,20 @@ module _ (kind : ℕ) (v : List ℕ) (start : ℕ) (r : Refusal) where
 
 module _ (s : List ℕ) (r : Refusal) where
   -- either the frame is not all there, or the refusal is another
-  pub refused_cases : read_capsule s ≡ refused r → ((r ≡ Incomplete) × (frame_of s ≡ F.Refused Incomplete)) ⊎ Faulty r
+  pub refused_cases : read_capsule s ≡ refused r → ((r ≡ Incomplete) × (frame_of s ≡ Err Incomplete)) ⊎ Faulty r
   unfolding read_capsule
-  refused_cases e = of (frame_of s) refl (Frame.frame_case s) e
+  refused_cases e = of (frame_of s) refl (Frames.frame_case s) e
     where
-      of : (x : FrameRead) → frame_of s ≡ x → Frame.FrameCase s x → in_frame s x ≡ refused r → ((r ≡ Incomplete) × (frame_of s ≡ F.Refused Incomplete)) ⊎ Faulty r
-      of x g (Frame.there {kind} {start} {size} f) e = inr (value_faulty kind (take size (drop start s)) start r e)
-      of x g (Frame.long p q h l) e = inr (as_faulty TooLong r (omega arith, omega arith) (cc))
-      of x g Frame.lacking e = let z : Incomplete ≡ r = cc in inl (sym z, g)
+      of : (x : Result FrameRead Refusal) → frame_of s ≡ x → Frames.FrameCase s x → in_frame s x ≡ refused r → ((r ≡ Incomplete) × (frame_of s ≡ Err Incomplete)) ⊎ Faulty r
+      of x g (Frames.there {kind} {start} {size} f) e = inr (value_faulty kind (take size (drop start s)) start r e)
+      of x g (Frames.long p q h l) e = inr (as_faulty TooLong r (omega arith, omega arith) (cc))
+      of x g Frames.lacking e = let z : Incomplete ≡ r = cc in inl (sym z, g)
 
 -- 1 is of the frame: type, length and value are not all there
 module _ (s : List ℕ) where
-  pub waits-frame : read_capsule s ≡ refused Incomplete → frame_of s ≡ F.Refused Incomplete
+  pub waits-frame : read_capsule s ≡ refused Incomplete → frame_of s ≡ Err Incomplete
   waits-frame e = ⊎_elim (λ p. p.1) (λ p. absurd (omega (arith, p.0))) (refused_cases s Incomplete e)
 
-  pub frame-waits : frame_of s ≡ F.Refused Incomplete → read_capsule s ≡ refused Incomplete
+  pub frame-waits : frame_of s ≡ Err Incomplete → read_capsule s ≡ refused Incomplete
   unfolding read_capsule
   frame-waits e = ap (in_frame s) e

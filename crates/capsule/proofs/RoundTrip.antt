@@ -22,7 +22,7 @@ use Rattle.capsule.specs.Entries.{entry_format, range_format}
 use Rattle.capsule.specs.Capsules.{max_value, Capsule, datagram, assign, request, advertise, unknown, capsule, read_value, frame_of, read_capsule, frame_bytes, value_of, capsule_bytes}
 use Rattle.capsule.specs.Sound.{value_start, Ruled, Sound, sound-datagram, sound-assign, sound-request, sound-advertise, sound-unknown, in_words}
 use Rattle.capsule.specs.Shortest.{shortest_front, behind_number, every_element, shortest_ids, shortest_value, shortest_capsule}
-use Rattle.capsule.proofs.FrameCases as Frame
+use Rattle.capsule.proofs.FrameCases as Frames
 use Rattle.capsule.proofs.Parsing as Parsing
 use Rattle.capsule.proofs.EntryBytes.{entries_lawful}
 use Rattle.capsule.proofs.RangeBytes.{ranges_lawful}
@@ -45,7 +45,7 @@ module _ (kind : ℕ) (v rest : List ℕ) (h : kind ≤ 3) (l : length v ≤ max
   length_frame =
       omega (arith, length-append (encode kind) (encode (length v) ++ v), length-append (encode (length v)) v, Encoding.length_encode kind, Encoding.length_encode (length v))
 
-  framed : Frame.Framed (frame_bytes kind v ++ rest) kind (encoded_size kind + encoded_size (length v)) (length v)
+  framed : Frames.Framed (frame_bytes kind v ++ rest) kind (encoded_size kind + encoded_size (length v)) (length v)
   framed =
       record {
         n = encoded_size kind;
@@ -59,7 +59,7 @@ module _ (kind : ℕ) (v rest : List ℕ) (h : kind ≤ 3) (l : length v ≤ max
 
   pub read-framed : read_capsule (frame_bytes kind v ++ rest) ≡ read_value kind v (encoded_size kind + encoded_size (length v))
   unfolding read_capsule
-  read-framed = rw (Frame.framed-frame framed, behind_length, take-append_seam v rest)
+  read-framed = rw (Frames.framed-frame framed, behind_length, take-append_seam v rest)
 
   -- a value that reads as the capsule c
   pub read-frame : (c : Capsule) → read_value kind v (encoded_size kind + encoded_size (length v)) ≡ capsule c (encoded_size kind + encoded_size (length v)) (encoded_size kind + encoded_size (length v) + length v)
@@ -117,7 +117,7 @@ length_capsule c (sound-advertise {rs} r) k = sym (length_frame 3 (written range
 length_capsule c sound-unknown k = absurd (k refl)
 
 -- ---- read, then written
-module _ (s : List ℕ) (h : Bytes s) (kind start count : ℕ) (f : Frame.Framed s kind start count) where
+module _ (s : List ℕ) (h : Bytes s) (kind start count : ℕ) (f : Frames.Framed s kind start count) where
   length_value : length (take count (drop start s)) ≡ count
   length_value = simp (length-take, length-drop) (omega (arith, f.there))
 
@@ -148,7 +148,7 @@ module _ (s : List ℕ) (h : Bytes s) (kind start count : ℕ) (f : Frame.Framed
       let a : shortest kind f.n ≡ true = rw f.type at p.0 in
       let b : shortest_front (drop f.n s) ≡ true = rw f.type at q.0 in
       let d : shortest count f.m ≡ true = rw f.count at b in
-      (eqb-true f.n (encoded_size kind) a, eqb-true f.m (encoded_size count) d, rw (Frame.framed-frame f) at q.1)
+      (eqb-true f.n (encoded_size kind) a, eqb-true f.m (encoded_size count) d, rw (Frames.framed-frame f) at q.1)
 
 -- the capsule of a value whose Request IDs are shortest
 value-bytes : (kind : ℕ) (v : List ℕ) (c : Capsule) → Bytes v → Taken kind v c → (c ≡ unknown → ⊥) → shortest_ids kind v ≡ true

@@ -1,4 +1,5 @@
 -- A turn of a loop that reads elements of any kind: one element more before what is left to parse, or the first fault. Assumes nothing.
+use Rattle.std.proofs.Common.{Ok, Err}
 use Prim.Native.Nat.{ℕ, suc, ◌+◌, ◌-◌, ◌≤◌, ◌<◌}
 use mathlib.Core.Bool.{Bool, true, false}
 use mathlib.Core.Path.{◌≡◌, refl, sym, ◌∙◌}
@@ -10,18 +11,17 @@ use lib.ListN.{length, drop, length-drop, length-append}
 use lib.Seq.{drop-drop}
 use Rattle.answer.specs.declared.Refusal.{Refusal}
 use Rattle.answer.specs.declared.Refusal.TheVariants.{BadRequestId, TooMany}
-use Rattle.answer.specs.declared.Verdict.TheVariants.{Go, Stop}
 use Rattle.capsule.specs.Elements.{element, broken, Format, Parsed, fault, all, before, parse, settled, elements_in}
 
 module _ {A : Type 0} (f : Format A) (fuel : ℕ) (earlier : List A) where
   -- one element, and what follows it
-  pub parse-next : (s : List ℕ) (a : A) (n : ℕ) → 0 < length s → f.read s ≡ element a n → f.follows earlier a ≡ Go
+  pub parse-next : (s : List ℕ) (a : A) (n : ℕ) → 0 < length s → f.read s ≡ element a n → f.follows earlier a ≡ Ok tt
       → parse f (suc fuel) earlier s ≡ before (a ∷ []) (parse f fuel (a ∷ earlier) (drop n s))
   unfolding parse
   parse-next [] a n h q g = absurd (not-suc-le-zero h)
   parse-next (b ∷ s) a n h q g = rw (q, g)
 
-  pub parse-stop : (s : List ℕ) (a : A) (n : ℕ) (r : Refusal) → 0 < length s → f.read s ≡ element a n → f.follows earlier a ≡ Stop r
+  pub parse-stop : (s : List ℕ) (a : A) (n : ℕ) (r : Refusal) → 0 < length s → f.read s ≡ element a n → f.follows earlier a ≡ Err r
       → parse f (suc fuel) earlier s ≡ fault r
   unfolding parse
   parse-stop [] a n r h q g = absurd (not-suc-le-zero h)
@@ -74,7 +74,7 @@ module _ {A : Type 0} {f : Format A} {asked : Bool} {limit : ℕ} {s : List ℕ}
     more = simp length-drop (omega arith)
 
     module _ (a : A) (n : ℕ) (q : f.read (drop at s) ≡ element a n) where
-      pub next : 1 ≤ n → n ≤ length (drop at s) → f.follows earlier a ≡ Go → Reading f asked limit s (xs ++ (a ∷ [])) (a ∷ earlier) (at + n)
+      pub next : 1 ≤ n → n ≤ length (drop at s) → f.follows earlier a ≡ Ok tt → Reading f asked limit s (xs ++ (a ∷ [])) (a ∷ earlier) (at + n)
       next h w o =
           let l : length (xs ++ (a ∷ [])) ≡ length xs + 1 = length-append xs (a ∷ []) in
           let b : length xs ≤ at = i.behind in
@@ -87,7 +87,7 @@ module _ {A : Type 0} {f : Format A} {asked : Bool} {limit : ℕ} {s : List ℕ}
                 (rw (k, parse-next f (suc (length s - (length xs + 1))) earlier (drop at s) a n more q o) at i.rest);
           }
 
-      pub fault-rule : (r : Refusal) → f.follows earlier a ≡ Stop r → fault r ≡ elements_in f asked limit s
+      pub fault-rule : (r : Refusal) → f.follows earlier a ≡ Err r → fault r ≡ elements_in f asked limit s
       fault-rule r o = rw (parse-stop f (length s - length xs) earlier (drop at s) a n r more q o) at i.rest
 
     pub fault_layout : f.read (drop at s) ≡ broken → fault f.wrong ≡ elements_in f asked limit s

@@ -1,29 +1,30 @@
 -- What reading hands back, by the code's cases: of a frame, of a list's value, and of a place of a buffer. Assumes nothing.
-use Prim.Native.Nat.{ℕ, zero, suc, ◌+◌, ◌-◌, ◌≤◌, ◌<◌, min}
+use Rattle.std.proofs.Common.{Result, Ok, Err}
+use Rattle.std.proofs.lemmas.Option.{same_Some}
+use Rattle.std.specs.Result.{result_ok}
+use Prim.Native.Nat.{ℕ, ◌+◌, ◌-◌, ◌≤◌, ◌<◌, min}
 use mathlib.Core.Bool.{Bool, true, false}
 use mathlib.Core.Path.{◌≡◌, refl, sym, ap, ◌∙◌}
 use mathlib.Core.List.{List}
-use mathlib.Core.Logic.{⊎_elim}
+use mathlib.Core.Logic.{◌⊎◌, ⊎_elim}
 use native.Mathlib.Omega.{arith}
 use borrow.Author.Tests.{ne_eqb, le-ltb, lt-ltb}
 use lib.ListN.{length, take, drop, drop_of_length-le, length-take, length-drop}
 use lib.Seq.{drop-drop}
 use Rattle.answer.specs.declared.Refusal.{Refusal}
 use Rattle.answer.specs.declared.Refusal.TheVariants.{Incomplete, TooLong}
-use Rattle.answer.specs.declared.Verdict.{Verdict}
-use Rattle.answer.specs.declared.Verdict.TheVariants.{Go, Stop}
 use Rattle.answer.proofs.Tests.{order}
 use Rattle.varint.specs.Numbers.{read_number}
 use Rattle.varint.proofs.Reading as Number
 use Rattle.lists.specs.Words.{max_addresses, max_ranges}
 use Rattle.capsule.specs.declared.CapsuleRead.{CapsuleRead}
 use Rattle.capsule.specs.declared.FrameRead.{FrameRead}
-use Rattle.capsule.specs.declared.FrameRead.TheVariants.{Value}
-use Rattle.capsule.specs.declared.FrameRead.TheVariants as Frame
+use Rattle.capsule.specs.declared.Kind.{Kind}
+use Rattle.capsule.specs.declared.Kind.TheVariants.{Datagram, AddressAssign, AddressRequest, RouteAdvertisement, Other}
 use Rattle.capsule.specs.Elements.{Parsed, fault, all, parsed_verdict, elements_in}
 use Rattle.capsule.specs.Entries.{entry_format, range_format}
-use Rattle.capsule.specs.Capsules.{max_value, Capsule, kind_of, assign, request, advertise, entries_in, ranges_in, listed, refused, read_value, in_frame, frame_of, read_capsule}
-use Rattle.capsule.specs.Results.{judged_at, other_kind, refused_at, found_at, result_at, read_at, frame_result, frame_in, value_verdict, ReadsEntries, ReadsRanges}
+use Rattle.capsule.specs.Capsules.{frame_read, max_value, Capsule, kind_of, kind_number, kind_numbered, number-numbered, assign, request, advertise, entries_in, ranges_in, listed, refused, read_value, in_frame, frame_of, read_capsule}
+use Rattle.capsule.specs.Results.{judged_found, other_kind, found_at, result_at, read_at, frame_result, frame_in, value_verdict, ReadsEntries, ReadsRanges}
 use Rattle.capsule.proofs.FrameCases.{Framed, frame_facts, framed-frame}
 
 -- ---- a list, by the length of its value
@@ -45,36 +46,44 @@ module _ (v : List ℕ) where
   unfolding ranges_in
   ranges-short h = rw (le-ltb max_value (length v) h)
 
+-- ---- the kind of a kind's number
+pub numbered-number : (k : Kind) → kind_numbered (kind_number k) ≡ k
+numbered-number Datagram = refl
+numbered-number AddressAssign = refl
+numbered-number AddressRequest = refl
+numbered-number RouteAdvertisement = refl
+numbered-number Other = refl
+
 -- ---- the verdict of a value, by its kind
-module _ (kind : ℕ) (v : List ℕ) where
-  pub assign-verdict : {r : Verdict} {words : List ℕ} → kind ≡ 1 → ReadsEntries (entries_in false v) r words → r ≡ value_verdict kind v
+module _ {kind : Kind} (v : List ℕ) where
+  pub assign-verdict : {r : Result Unit Refusal} {words : List ℕ} → kind ≡ AddressAssign → ReadsEntries (entries_in false v) r words → r ≡ value_verdict kind v
   unfolding value_verdict
   assign-verdict k t = rw k t.verdict
 
-  pub request-verdict : {r : Verdict} {words : List ℕ} → kind ≡ 2 → ReadsEntries (entries_in true v) r words → r ≡ value_verdict kind v
+  pub request-verdict : {r : Result Unit Refusal} {words : List ℕ} → kind ≡ AddressRequest → ReadsEntries (entries_in true v) r words → r ≡ value_verdict kind v
   unfolding value_verdict
   request-verdict k t = rw k t.verdict
 
-  pub advertise-verdict : {r : Verdict} {words : List ℕ} → kind ≡ 3 → ReadsRanges (ranges_in v) r words → r ≡ value_verdict kind v
+  pub advertise-verdict : {r : Result Unit Refusal} {words : List ℕ} → kind ≡ RouteAdvertisement → ReadsRanges (ranges_in v) r words → r ≡ value_verdict kind v
   unfolding value_verdict
   advertise-verdict k t = rw k t.verdict
 
-  pub no_list_verdict : (kind ≡ 1 → ⊥) → (kind ≡ 2 → ⊥) → (kind ≡ 3 → ⊥) → Go ≡ value_verdict kind v
+  pub no_list_verdict : (kind ≡ Datagram) ⊎ (kind ≡ Other) → (Ok tt) ≡ value_verdict kind v
   unfolding value_verdict
-  no_list_verdict a b c = rw (ne_eqb kind 1 a, ne_eqb kind 2 b, ne_eqb kind 3 c)
+  no_list_verdict k = ⊎_elim (λ q. rw q refl) (λ q. rw q refl) k
 
 -- ---- a frame at a place of a buffer
 module _ (s : List ℕ) (at : ℕ) where
-  pub past_end : length s < at → refused_at at Incomplete ≡ frame_in s at
+  pub past_end : length s < at → Err Incomplete ≡ frame_in s at
   unfolding frame_in frame_of read_number
   past_end h = let l : length s ≤ at = omega arith in rw (drop_of_length-le s l)
 
-  pub whole-frame : (kind start size k : ℕ) → frame_of (drop at s) ≡ Value kind start size → k ≡ min kind other_kind
-      → found_at at k start size ≡ frame_in s at
+  pub whole-frame : (type start size : ℕ) (kind : Kind) → frame_of (drop at s) ≡ Ok (frame_read type start size) → kind ≡ kind_numbered type
+      → Ok (record { kind = kind; start = at + start; length = size; next = at + start + size }) ≡ frame_in s at
   unfolding frame_in
-  whole-frame kind start size k e f = rw (e, f)
+  whole-frame type start size kind e f = rw (e, f)
 
-  pub refused-frame : (r : Refusal) → frame_of (drop at s) ≡ Frame.Refused r → refused_at at r ≡ frame_in s at
+  pub refused-frame : (r : Refusal) → frame_of (drop at s) ≡ Err r → Err r ≡ frame_in s at
   unfolding frame_in
   refused-frame r e = rw e
 
@@ -98,23 +107,22 @@ module _ (at start n : ℕ) where
   found-size kind = let z : start + n - start ≡ n = omega arith in rw z
 
   list_result : {A : Type 0} (c : List A → Capsule) (kind : ℕ) → ((xs : List A) → kind_of (c xs) ≡ kind) → (p : Parsed A)
-      → result_at at (listed c start (start + n) p) ≡ judged_at at (parsed_verdict p) (found_at at kind start n)
+      → result_at at (listed c start (start + n) p) ≡ judged_found (parsed_verdict p) (found_at at kind start n)
   list_result c kind k (fault r) = refl
-  list_result c kind k (all xs) = rw (k xs) (found-size kind)
+  list_result c kind k (all xs) = rw (k xs) (ap Ok (found-size kind))
 
 module _ (v : List ℕ) (at start : ℕ) where
-  value_result : (kind : ℕ) → kind ≤ other_kind → (kind ≤ 3 → length v ≤ max_value)
-      → result_at at (read_value kind v start) ≡ judged_at at (value_verdict kind v) (found_at at kind start (length v))
+  value_result : (kind : Kind) → (kind_number kind ≤ 3 → length v ≤ max_value)
+      → result_at at (read_value (kind_number kind) v start) ≡ judged_found (value_verdict kind v) (found_at at (kind_number kind) start (length v))
   unfolding read_value value_verdict
-  value_result zero h l = found-size at start (length v) 0
-  value_result (suc zero) h l =
+  value_result Datagram l = ap Ok (found-size at start (length v) 0)
+  value_result AddressAssign l =
       rw (entries-short false v (l (omega arith))) (list_result at start (length v) assign 1 (λ es. refl) (entries_in false v))
-  value_result (suc (suc zero)) h l =
+  value_result AddressRequest l =
       rw (entries-short true v (l (omega arith))) (list_result at start (length v) request 2 (λ es. refl) (entries_in true v))
-  value_result (suc (suc (suc zero))) h l =
+  value_result RouteAdvertisement l =
       rw (ranges-short v (l (omega arith))) (list_result at start (length v) advertise 3 (λ rs. refl) (ranges_in v))
-  value_result (suc (suc (suc (suc zero)))) h l = found-size at start (length v) 4
-  value_result (suc (suc (suc (suc (suc n))))) h l = absurd (omega arith)
+  value_result Other l = ap Ok (found-size at start (length v) 4)
 
 -- ---- a capsule that a frame found: its type, where its value starts behind the place, and how long it is
 pub record Found (s : List ℕ) (at : ℕ) (f : CapsuleRead) : Type 0 where
@@ -122,46 +130,39 @@ pub record Found (s : List ℕ) (at : ℕ) (f : CapsuleRead) : Type 0 where
   pub behind : ℕ
   pub size : ℕ
   pub framed : Framed (drop at s) type behind size
-  pub is : f ≡ found_at at (min type other_kind) behind size
+  pub is : f ≡ found_at at type behind size
 
-module _ (s : List ℕ) (at : ℕ) (f : CapsuleRead) where
-  of-frame : (r : FrameRead) → frame_of (drop at s) ≡ r → f ≡ frame_result at r → f.verdict ≡ Go → Found s at f
-  of-frame (Value kind start size) q e g =
+module _ (s : List ℕ) (at : ℕ) where
+  of-frame : (f : CapsuleRead) (r : Result FrameRead Refusal) → frame_of (drop at s) ≡ r → Ok f ≡ frame_result at r → Found s at f
+  of-frame f (Ok r) q e =
       record {
-        type = kind;
-        behind = start;
-        size = size;
-        framed = frame_facts (drop at s) kind start size q;
-        is = e;
+        type = r.kind;
+        behind = r.start;
+        size = r.length;
+        framed = frame_facts (drop at s) r.kind r.start r.length q;
+        is = same_Some _ _ (ap result_ok e);
       }
-  of-frame (Frame.Refused r) q e g = let z : ◌≡◌ {A = ℕ} 0 1 = cc in absurd (omega arith)
+  of-frame f (Err r) q e = let z : ◌≡◌ {A = ℕ} 0 1 = cc in absurd (omega arith)
 
-  pub found : f ≡ frame_in s at → f.verdict ≡ Go → Found s at f
+  pub found : (f : CapsuleRead) → Ok f ≡ frame_in s at → Found s at f
   unfolding frame_in
-  found e g = of-frame (frame_of (drop at s)) refl e g
+  found f e = of-frame f (frame_of (drop at s)) refl e
 
-  of-refusal : (r : Refusal) (t : FrameRead) → frame_of (drop at s) ≡ t → f ≡ frame_result at t → f.verdict ≡ Stop r → f ≡ read_at s at
-  unfolding read_at read_capsule
-  of-refusal r (Value kind start size) q e g = let z : ◌≡◌ {A = ℕ} 0 1 = cc in absurd (omega arith)
-  of-refusal r (Frame.Refused w) q e g = e ∙ sym (rw q refl)
-
-  of-refused : (r : Refusal) (t : FrameRead) → frame_of (drop at s) ≡ t → f ≡ frame_result at t → f.verdict ≡ Stop r
-      → read_capsule (drop at s) ≡ refused r
+  of-refusal : (r : Refusal) (t : Result FrameRead Refusal) → frame_of (drop at s) ≡ t → frame_result at t ≡ Err r → read_capsule (drop at s) ≡ refused r
   unfolding read_capsule
-  of-refused r (Value kind start size) q e g = let z : ◌≡◌ {A = ℕ} 0 1 = cc in absurd (omega arith)
-  of-refused r (Frame.Refused w) q e g =
-      let z : ◌≡◌ {A = Verdict} (Stop w) (Stop r) = sym (ap (λ (x : CapsuleRead). x.verdict) e) ∙ g in
+  of-refusal r (Ok x) q e = let z : ◌≡◌ {A = ℕ} 0 1 = cc in absurd (omega arith)
+  of-refusal r (Err w) q e =
       let y : w ≡ r = cc in
       ap (in_frame (drop at s)) q ∙ ap refused y
 
-  pub refused-reading : (r : Refusal) → f ≡ frame_in s at → f.verdict ≡ Stop r → read_capsule (drop at s) ≡ refused r
+  pub refused-reading : (r : Refusal) → frame_in s at ≡ Err r → read_capsule (drop at s) ≡ refused r
   unfolding frame_in
-  refused-reading r e g = of-refused r (frame_of (drop at s)) refl e g
+  refused-reading r e = of-refusal r (frame_of (drop at s)) refl e
 
   -- a refused frame is a refused capsule
-  pub frame_refused : (r : Refusal) → f ≡ frame_in s at → f.verdict ≡ Stop r → f ≡ read_at s at
-  unfolding frame_in
-  frame_refused r e g = of-refusal r (frame_of (drop at s)) refl e g
+  pub frame_refused : (r : Refusal) → frame_in s at ≡ Err r → Err r ≡ read_at s at
+  unfolding read_at
+  frame_refused r e = sym (ap (result_at at) (refused-reading r e))
 
 -- the value as the code cuts it
 abbrev pub value_in : List ℕ → CapsuleRead → List ℕ
@@ -174,11 +175,11 @@ module _ {s : List ℕ} {at : ℕ} {f : CapsuleRead} (k : Found s at f) where
   ends : f.next ≡ at + k.behind + k.size
   ends = ap (λ x. x.next) k.is
 
-  kind-is : f.kind ≡ min k.type other_kind
+  kind-is : f.kind ≡ kind_numbered k.type
   kind-is = ap (λ x. x.kind) k.is
 
-  pub kind-within : f.kind ≤ other_kind
-  kind-within = omega (arith, kind-is)
+  kind_number-is : kind_number f.kind ≡ min k.type other_kind
+  kind_number-is = ap kind_number kind-is ∙ number-numbered k.type
 
   pub start-within : f.start ≤ f.next
   start-within = omega (arith, starts, ends)
@@ -198,32 +199,31 @@ module _ {s : List ℕ} {at : ℕ} {f : CapsuleRead} (k : Found s at f) where
   length_value : length (value_in s f) ≡ k.size
   length_value = simp (length-take, length-drop) (omega (arith, starts, ends, next-within))
 
-  pub value-short : f.kind ≤ 3 → length (value_in s f) ≤ max_value
+  pub value-short : kind_number f.kind ≤ 3 → length (value_in s f) ≤ max_value
   value-short h =
-      let t : k.type ≤ 3 = omega (arith, kind-is) in
+      let t : k.type ≤ 3 = omega (arith, kind_number-is) in
       omega (arith, length_value, k.framed.short t)
 
   -- the capsule is its value read by its kind
-  pub reading : read_capsule (drop at s) ≡ read_value f.kind (value_in s f) k.behind
+  pub reading : read_capsule (drop at s) ≡ read_value (kind_number f.kind) (value_in s f) k.behind
   unfolding read_capsule
   reading =
       ap (in_frame (drop at s)) (framed-frame k.framed)
       ∙ ap (λ v. read_value k.type v k.behind) (sym value-part)
       ∙ kind-value k.type (value_in s f) k.behind
-      ∙ ap (λ t. read_value t (value_in s f) k.behind) (sym kind-is)
+      ∙ ap (λ t. read_value t (value_in s f) k.behind) (sym kind_number-is)
 
-  found_again : found_at at f.kind k.behind (length (value_in s f)) ≡ found_at at (min k.type other_kind) k.behind k.size
-  found_again =
-      ap (λ t. found_at at t k.behind (length (value_in s f))) kind-is ∙ ap (λ n. found_at at (min k.type other_kind) k.behind n) length_value
+  found_again : found_at at (kind_number f.kind) k.behind (length (value_in s f)) ≡ found_at at k.type k.behind k.size
+  found_again = rw (numbered-number f.kind, kind-is, length_value) refl
 
-  pub judged-value : read_at s at ≡ judged_at at (value_verdict f.kind (value_in s f)) f
+  pub judged-value : read_at s at ≡ judged_found (value_verdict f.kind (value_in s f)) f
   unfolding read_at
   judged-value =
-      ap (result_at at) reading ∙ value_result (value_in s f) at k.behind f.kind kind-within value-short
-      ∙ ap (judged_at at (value_verdict f.kind (value_in s f))) (found_again ∙ sym k.is)
+      ap (result_at at) reading ∙ value_result (value_in s f) at k.behind f.kind value-short
+      ∙ ap (judged_found (value_verdict f.kind (value_in s f))) (found_again ∙ sym k.is)
 
-  pub found-read : value_verdict f.kind (value_in s f) ≡ Go → f ≡ read_at s at
-  found-read g = sym (judged-value ∙ ap (λ v. judged_at at v f) g)
+  pub found-read : value_verdict f.kind (value_in s f) ≡ Ok tt → Ok f ≡ read_at s at
+  found-read g = sym (judged-value ∙ ap (λ (v : Result Unit Refusal). judged_found v f) g)
 
-  pub found-fault : (r : Refusal) → value_verdict f.kind (value_in s f) ≡ Stop r → refused_at at r ≡ read_at s at
-  found-fault r g = sym (judged-value ∙ ap (λ v. judged_at at v f) g)
+  pub found-fault : (r : Refusal) → value_verdict f.kind (value_in s f) ≡ Err r → Err r ≡ read_at s at
+  found-fault r g = sym (judged-value ∙ ap (λ (v : Result Unit Refusal). judged_found v f) g)

@@ -1,16 +1,17 @@
 -- Capsules on bytes (RFC 9297, section 3.2; RFC 9484, section 4.7): type, length, value.
-use Rattle.std.specs.Prelude.{ℕ, ◌+◌, ◌/◌, Bool, true, false, ◌&&◌, List, [], ◌++◌, leb, ltb, eqb, length, take, drop}
+use Rattle.std.specs.Prelude.{ℕ, zero, suc, ◌+◌, ◌/◌, min, ◌≡◌, refl, Bool, true, false, ◌&&◌, List, [], ◌++◌, leb, ltb, eqb, length, take, drop, Option, Some, None, Result, Ok, Err}
+use Rattle.std.proofs.Common.{arith}
 use Rattle.answer.specs.declared.Refusal.{Refusal}
 use Rattle.answer.specs.declared.Refusal.TheVariants.{Incomplete, TooLong}
 use Rattle.answer.specs.Choice.{pick}
-use Rattle.varint.specs.declared.NumberRead.{NumberRead}
-use Rattle.varint.specs.declared.NumberRead.TheVariants.{Whole, Cut}
+use Rattle.varint.specs.declared.Number.{Number}
 use Rattle.varint.specs.Numbers.{read_number, encode}
 use Rattle.lists.specs.declared.AddressEntry.{AddressEntry}
 use Rattle.lists.specs.declared.RouteRange.{RouteRange}
 use Rattle.lists.specs.Words.{max_addresses, max_ranges}
 use Rattle.capsule.specs.declared.FrameRead.{FrameRead}
-use Rattle.capsule.specs.declared.FrameRead.TheVariants.{Value, Refused}
+use Rattle.capsule.specs.declared.Kind.{Kind}
+use Rattle.capsule.specs.declared.Kind.TheVariants.{Datagram, AddressAssign, AddressRequest, RouteAdvertisement, Other}
 use Rattle.capsule.specs.Elements.{Parsed, fault, all, elements_in, written}
 use Rattle.capsule.specs.Entries.{entry_format, range_format}
 
@@ -41,23 +42,48 @@ kind_of (request es) = 2
 kind_of (advertise rs) = 3
 kind_of unknown = 4
 
+abbrev pub kind_number : Kind → ℕ
+kind_number Datagram = 0
+kind_number AddressAssign = 1
+kind_number AddressRequest = 2
+kind_number RouteAdvertisement = 3
+kind_number Other = 4
+
+-- the kind of a capsule type
+abbrev pub kind_numbered : ℕ → Kind
+kind_numbered zero = Datagram
+kind_numbered (suc zero) = AddressAssign
+kind_numbered (suc (suc zero)) = AddressRequest
+kind_numbered (suc (suc (suc zero))) = RouteAdvertisement
+kind_numbered (suc (suc (suc (suc n)))) = Other
+
+pub number-numbered : (n : ℕ) → kind_number (kind_numbered n) ≡ min n 4
+number-numbered zero = refl
+number-numbered (suc zero) = refl
+number-numbered (suc (suc zero)) = refl
+number-numbered (suc (suc (suc zero))) = refl
+number-numbered (suc (suc (suc (suc n)))) = omega arith
+
 -- ---- the frame: where the value of a capsule at the front of s starts and how long it is
 
+abbrev pub frame_read : ℕ → ℕ → ℕ → FrameRead
+frame_read kind start size = record { kind = kind; start = start; length = size }
+
 -- the length is tested against the limit before the value is looked for
-abbrev pub frame_at : List ℕ → ℕ → ℕ → ℕ → FrameRead
+abbrev pub frame_at : List ℕ → ℕ → ℕ → ℕ → Result FrameRead Refusal
 frame_at s kind start size =
-    pick (leb kind 3 && ltb max_value size) (Refused TooLong)
-    (pick (leb (start + size) (length s)) (Value kind start size) (Refused Incomplete))
+    pick (leb kind 3 && ltb max_value size) (Err TooLong)
+    (pick (leb (start + size) (length s)) (Ok (frame_read kind start size)) (Err Incomplete))
 
-abbrev pub after_length : List ℕ → ℕ → ℕ → NumberRead → FrameRead
-after_length s kind n (Whole size m) = frame_at s kind (n + m) size
-after_length s kind n Cut = Refused Incomplete
+abbrev pub after_length : List ℕ → ℕ → ℕ → Option Number → Result FrameRead Refusal
+after_length s kind n (Some q) = frame_at s kind (n + q.size) q.value
+after_length s kind n None = Err Incomplete
 
-abbrev pub after_type : List ℕ → NumberRead → FrameRead
-after_type s (Whole kind n) = after_length s kind n (read_number (drop n s))
-after_type s Cut = Refused Incomplete
+abbrev pub after_type : List ℕ → Option Number → Result FrameRead Refusal
+after_type s (Some q) = after_length s q.value q.size (read_number (drop q.size s))
+after_type s None = Err Incomplete
 
-unfoldable pub frame_of : List ℕ → FrameRead
+unfoldable pub frame_of : List ℕ → Result FrameRead Refusal
 frame_of s = after_type s (read_number s)
 
 -- ---- the elements of a value: over the limit, then the first fault element by element, then that of the whole list
@@ -86,9 +112,9 @@ read_value kind v start =
     (pick (eqb kind 3) (listed advertise start (start + length v) (elements_in range_format false max_ranges v))
     (capsule unknown start (start + length v)))))
 
-abbrev pub in_frame : List ℕ → FrameRead → Reading
-in_frame s (Value kind start size) = read_value kind (take size (drop start s)) start
-in_frame s (Refused r) = refused r
+abbrev pub in_frame : List ℕ → Result FrameRead Refusal → Reading
+in_frame s (Ok f) = read_value f.kind (take f.length (drop f.start s)) f.start
+in_frame s (Err r) = refused r
 
 -- the capsule at the front of s
 unfoldable pub read_capsule : List ℕ → Reading

@@ -1,22 +1,18 @@
 -- Address entries and route ranges on bytes (RFC 9484, sections 4.7.1 to 4.7.3).
-use Rattle.std.specs.Prelude.{ℕ, ◌+◌, Bool, not, ◌&&◌, ◌||◌, List, [], ◌∷◌, ◌++◌, leb, eqb, length, get_or, drop}
+use Rattle.std.specs.Prelude.{ℕ, ◌+◌, Bool, not, ◌&&◌, ◌||◌, List, [], ◌∷◌, ◌++◌, leb, eqb, length, get_or, drop, Result, Ok, Option, Some, None}
+use Rattle.answer.specs.declared.Refusal.{Refusal}
 use Rattle.answer.specs.declared.Refusal.TheVariants.{BadAddress, BadRange, RangesOutOfOrder, BadRequestId}
-use Rattle.answer.specs.declared.Verdict.{Verdict}
-use Rattle.answer.specs.declared.Verdict.TheVariants.{Go}
 use Rattle.answer.specs.Choice.{pick}
 use Rattle.answer.specs.Verdict.{stop_if}
 use Rattle.octets.specs.Big.{big_at, digits}
-use Rattle.varint.specs.declared.NumberRead.{NumberRead}
-use Rattle.varint.specs.declared.NumberRead.TheVariants.{Whole, Cut}
+use Rattle.varint.specs.declared.Number.{Number}
 use Rattle.varint.specs.Numbers.{read_number, encode}
 use Rattle.lists.specs.declared.AddressEntry.{AddressEntry}
 use Rattle.lists.specs.declared.RouteRange.{RouteRange}
 use Rattle.octets.specs.Scan.{any_of}
 use Rattle.lists.specs.Rules.{id_of, sound_entry, sound_range, in_order, before_all}
 use Rattle.capsule.specs.declared.element.EntryRead.{EntryRead}
-use Rattle.capsule.specs.declared.element.EntryRead.TheVariants as Entry
 use Rattle.capsule.specs.declared.element.RangeRead.{RangeRead}
-use Rattle.capsule.specs.declared.element.RangeRead.TheVariants as Range
 use Rattle.capsule.specs.Elements.{Element, element, broken, Format}
 
 -- ---- an address entry: Request ID, version, address, prefix length
@@ -27,21 +23,25 @@ entry4 id t = record { request_id = record { 0 = id }; version = 4; prefix = get
 abbrev pub entry6 : ℕ → List ℕ → AddressEntry
 entry6 id t = record { request_id = record { 0 = id }; version = 6; prefix = get_or t 17 0; hi = big_at 1 8 t; lo = big_at 9 8 t }
 
+-- an entry and how many bytes it took
+abbrev pub entry_read : AddressEntry → ℕ → EntryRead
+entry_read e n = record { entry = e; size = n }
+
 -- an entry of m bytes behind an ID of n, where they are all there and it keeps its rule
-abbrev pub whole_entry : ℕ → ℕ → List ℕ → AddressEntry → EntryRead
-whole_entry n m t e = pick (leb m (length t) && sound_entry e) (Entry.Good e (n + m)) Entry.Bad
+abbrev pub whole_entry : ℕ → ℕ → List ℕ → AddressEntry → Option EntryRead
+whole_entry n m t e = pick (leb m (length t) && sound_entry e) (Some (entry_read e (n + m))) None
 
 -- what follows a Request ID of n bytes
-unfoldable pub read_body : ℕ → ℕ → List ℕ → EntryRead
+unfoldable pub read_body : ℕ → ℕ → List ℕ → Option EntryRead
 read_body id n t =
-    pick (eqb (get_or t 0 0) 4) (whole_entry n 6 t (entry4 id t)) (pick (eqb (get_or t 0 0) 6) (whole_entry n 18 t (entry6 id t)) Entry.Bad)
+    pick (eqb (get_or t 0 0) 4) (whole_entry n 6 t (entry4 id t)) (pick (eqb (get_or t 0 0) 6) (whole_entry n 18 t (entry6 id t)) None)
 
-abbrev pub after_id : List ℕ → NumberRead → EntryRead
-after_id s (Whole id n) = read_body id n (drop n s)
-after_id s Cut = Entry.Bad
+abbrev pub after_id : List ℕ → Option Number → Option EntryRead
+after_id s (Some q) = read_body q.value q.size (drop q.size s)
+after_id s None = None
 
 -- the entry at the front of s
-unfoldable pub read_entry : List ℕ → EntryRead
+unfoldable pub read_entry : List ℕ → Option EntryRead
 read_entry s = after_id s (read_number s)
 
 abbrev pub address_bytes : AddressEntry → List ℕ
@@ -67,12 +67,16 @@ range6 s =
       end_lo = big_at 25 8 s;
     }
 
-abbrev pub whole_range : ℕ → List ℕ → RouteRange → RangeRead
-whole_range m s r = pick (leb m (length s) && sound_range r) (Range.Good r m) Range.Bad
+-- a range and how many bytes it took
+abbrev pub range_read : RouteRange → ℕ → RangeRead
+range_read r n = record { range = r; size = n }
+
+abbrev pub whole_range : ℕ → List ℕ → RouteRange → Option RangeRead
+whole_range m s r = pick (leb m (length s) && sound_range r) (Some (range_read r m)) None
 
 -- the range at the front of s
-unfoldable pub read_range : List ℕ → RangeRead
-read_range s = pick (eqb (get_or s 0 0) 4) (whole_range 10 s (range4 s)) (pick (eqb (get_or s 0 0) 6) (whole_range 34 s (range6 s)) Range.Bad)
+unfoldable pub read_range : List ℕ → Option RangeRead
+read_range s = pick (eqb (get_or s 0 0) 4) (whole_range 10 s (range4 s)) (pick (eqb (get_or s 0 0) 6) (whole_range 34 s (range6 s)) None)
 
 abbrev pub ends_bytes : RouteRange → List ℕ
 ends_bytes r =
@@ -84,25 +88,25 @@ range_bytes r = r.version ∷ (ends_bytes r ++ (r.protocol ∷ []))
 
 -- ---- the kinds of element
 
-abbrev pub entry_element : EntryRead → Element AddressEntry
-entry_element (Entry.Good e n) = element e n
-entry_element Entry.Bad = broken
+abbrev pub entry_element : Option EntryRead → Element AddressEntry
+entry_element (Some r) = element r.entry r.size
+entry_element None = broken
 
-abbrev pub range_element : RangeRead → Element RouteRange
-range_element (Range.Good r n) = element r n
-range_element Range.Bad = broken
+abbrev pub range_element : Option RangeRead → Element RouteRange
+range_element (Some r) = element r.range r.size
+range_element None = broken
 
 -- in a request the Request IDs are not zero and differ
-unfoldable pub entry_follows : Bool → List AddressEntry → AddressEntry → Verdict
+unfoldable pub entry_follows : Bool → List AddressEntry → AddressEntry → Result Unit Refusal
 entry_follows request earlier e =
-    stop_if (request && (eqb (id_of e) 0 || any_of (λ d. eqb (id_of d) (id_of e)) earlier)) BadRequestId Go
+    stop_if (request && (eqb (id_of e) 0 || any_of (λ d. eqb (id_of d) (id_of e)) earlier)) BadRequestId (Ok tt)
 
 abbrev pub newest : List RouteRange → RouteRange
 newest [] = before_all
 newest (r ∷ rs) = r
 
-unfoldable pub range_follows : List RouteRange → RouteRange → Verdict
-range_follows earlier r = stop_if (not (in_order (newest earlier) r)) RangesOutOfOrder Go
+unfoldable pub range_follows : List RouteRange → RouteRange → Result Unit Refusal
+range_follows earlier r = stop_if (not (in_order (newest earlier) r)) RangesOutOfOrder (Ok tt)
 
 -- the entries of an assignment, or of a request
 abbrev pub entry_format : Bool → Format AddressEntry

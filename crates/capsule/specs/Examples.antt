@@ -1,7 +1,7 @@
 -- Capsules read and written. Each fact here is found by computing.
-use Rattle.std.specs.Prelude.{ℕ, ◌+◌, ◌*◌, true, false, ◌≡◌, refl, List, [], ◌∷◌, replicate}
+use Rattle.std.specs.Prelude.{ℕ, ◌+◌, ◌*◌, true, false, ◌≡◌, refl, List, [], ◌∷◌, replicate, Ok, Err}
 use Rattle.answer.specs.declared.Refusal.TheVariants.{Incomplete, TooLong, BadAddress, RangesOutOfOrder, BadRequestId}
-use Rattle.answer.specs.declared.Verdict.TheVariants.{Go, Stop}
+use Rattle.capsule.specs.declared.Kind.TheVariants.{Datagram, Other}
 use Rattle.varint.specs.Numbers.{read_number, encode, encoded_size}
 use Rattle.lists.specs.declared.AddressEntry.{AddressEntry}
 use Rattle.lists.specs.declared.RouteRange.{RouteRange}
@@ -9,7 +9,7 @@ use Rattle.lists.specs.Rules.{sound_entry, sound_range, in_order}
 use Rattle.capsule.specs.Elements.{fault, all, parse, elements_in}
 use Rattle.capsule.specs.Entries.{read_body, read_entry, read_range, entry_follows, range_follows, entry_bytes}
 use Rattle.capsule.specs.Capsules.{max_value, datagram, assign, request, advertise, unknown, entries_in, ranges_in, refused, capsule, frame_of, read_value, read_capsule, capsule_bytes}
-use Rattle.capsule.specs.Results.{read_at, frame_in}
+use Rattle.capsule.specs.Results.{next_after, read_at, frame_in}
 use Rattle.capsule.specs.Shortest.{every_element, shortest_capsule}
 
 -- 192.0.2.d with a prefix of n bits
@@ -139,23 +139,23 @@ nothing = refl
 -- ---- at a place of a buffer
 
 -- an empty list, and a datagram behind it
-second-read : read_at (0x01 ∷ 0x00 ∷ 0x00 ∷ 0x03 ∷ 0x00 ∷ 0x45 ∷ 0x00 ∷ []) 2 ≡ record { verdict = Go; kind = 0; start = 4; length = 3; next = 7 }
+second-read : read_at (0x01 ∷ 0x00 ∷ 0x00 ∷ 0x03 ∷ 0x00 ∷ 0x45 ∷ 0x00 ∷ []) 2 ≡ Ok (record { kind = Datagram; start = 4; length = 3; next = 7 })
 unfolding read_at read_capsule frame_of read_number read_value
 second-read = refl
 
 -- a capsule of type 0x21, and what its frame alone says
-other-read : read_at (0x21 ∷ 0x02 ∷ 0xaa ∷ 0xbb ∷ []) 0 ≡ record { verdict = Go; kind = 4; start = 2; length = 2; next = 4 }
+other-read : read_at (0x21 ∷ 0x02 ∷ 0xaa ∷ 0xbb ∷ []) 0 ≡ Ok (record { kind = Other; start = 2; length = 2; next = 4 })
 unfolding read_at read_capsule frame_of read_number read_value
 other-read = refl
 
-other-framed : frame_in (0x21 ∷ 0x02 ∷ 0xaa ∷ 0xbb ∷ []) 0 ≡ record { verdict = Go; kind = 4; start = 2; length = 2; next = 4 }
+other-framed : frame_in (0x21 ∷ 0x02 ∷ 0xaa ∷ 0xbb ∷ []) 0 ≡ Ok (record { kind = Other; start = 2; length = 2; next = 4 })
 unfolding frame_in frame_of read_number
 other-framed = refl
 
 -- a refusal leaves the place
-refused-read : read_at (0x01 ∷ 0x00 ∷ 0x02 ∷ 0x00 ∷ []) 2 ≡ record { verdict = Stop BadRequestId; kind = 0; start = 0; length = 0; next = 2 }
+refused-read : (read_at (0x01 ∷ 0x00 ∷ 0x02 ∷ 0x00 ∷ []) 2 ≡ Err BadRequestId) × (next_after 2 (read_at (0x01 ∷ 0x00 ∷ 0x02 ∷ 0x00 ∷ []) 2) ≡ 2)
 unfolding read_at read_capsule frame_of read_number read_value elements_in parse
-refused-read = refl
+refused-read = (refl, refl)
 
 -- ---- lists without type and length
 

@@ -1,27 +1,26 @@
 -- Capsules whose numbers are all in their shortest form: type, length and every Request ID.
-use Rattle.std.specs.Prelude.{ℕ, zero, suc, Bool, true, false, ◌&&◌, ◌||◌, List, [], ◌∷◌, eqb, length, take, drop}
+use Rattle.std.specs.Prelude.{ℕ, zero, suc, Bool, true, false, ◌&&◌, ◌||◌, List, [], ◌∷◌, eqb, length, take, drop, Option, Some, None, Result, Ok, Err}
 use Rattle.answer.specs.Choice.{pick}
-use Rattle.varint.specs.declared.NumberRead.{NumberRead}
-use Rattle.varint.specs.declared.NumberRead.TheVariants.{Whole, Cut}
+use Rattle.varint.specs.declared.Number.{Number}
 use Rattle.varint.specs.Numbers.{read_number, shortest}
+use Rattle.answer.specs.declared.Refusal.{Refusal}
 use Rattle.capsule.specs.declared.FrameRead.{FrameRead}
-use Rattle.capsule.specs.declared.FrameRead.TheVariants.{Value, Refused}
 use Rattle.capsule.specs.Elements.{Element, element, broken}
 use Rattle.capsule.specs.Entries.{entry_format}
 use Rattle.capsule.specs.Capsules.{frame_of}
 
-abbrev pub shortest_read : NumberRead → Bool
-shortest_read (Whole v n) = shortest v n
-shortest_read Cut = false
+abbrev pub shortest_read : Option Number → Bool
+shortest_read (Some q) = shortest q.value q.size
+shortest_read None = false
 
 -- the number at the front of s
 abbrev pub shortest_front : List ℕ → Bool
 shortest_front s = shortest_read (read_number s)
 
 -- what is behind it
-abbrev pub behind_number : List ℕ → NumberRead → List ℕ
-behind_number s (Whole v n) = drop n s
-behind_number s Cut = []
+abbrev pub behind_number : List ℕ → Option Number → List ℕ
+behind_number s (Some q) = drop q.size s
+behind_number s None = []
 
 -- the bytes of every element, each with those behind it, pass a test
 abbrev pub after_passing : {A : Type 0} → (List ℕ → Bool) → List ℕ → Element A → Bool
@@ -37,9 +36,9 @@ every_element read p (suc fuel) (b ∷ s) = p (b ∷ s) && after_passing (every_
 abbrev pub shortest_ids : ℕ → List ℕ → Bool
 shortest_ids kind v = pick (eqb kind 1 || eqb kind 2) (every_element (entry_format false).read shortest_front (suc (length v)) v) true
 
-abbrev pub shortest_value : List ℕ → FrameRead → Bool
-shortest_value s (Value kind start size) = shortest_ids kind (take size (drop start s))
-shortest_value s (Refused r) = true
+abbrev pub shortest_value : List ℕ → Result FrameRead Refusal → Bool
+shortest_value s (Ok f) = shortest_ids f.kind (take f.length (drop f.start s))
+shortest_value s (Err r) = true
 
 unfoldable pub shortest_capsule : List ℕ → Bool
 shortest_capsule s = shortest_front s && (shortest_front (behind_number s (read_number s)) && shortest_value s (frame_of s))

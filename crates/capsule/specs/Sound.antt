@@ -1,6 +1,5 @@
 -- Capsules that keep the rules, by their parts.
-use Rattle.std.specs.Prelude.{ℕ, ◌+◌, ◌^◌, ◌≤◌, ◌≡◌, Bool, true, false, ◌&&◌, List, [], ltb, length}
-use Rattle.answer.specs.declared.Verdict.TheVariants.{Go}
+use Rattle.std.specs.Prelude.{ℕ, ◌+◌, ◌^◌, ◌≤◌, ◌≡◌, Bool, true, false, ◌&&◌, List, [], ltb, length, Ok}
 use Rattle.varint.specs.Numbers.{encoded_size}
 use Rattle.lists.specs.declared.AddressEntry.{AddressEntry}
 use Rattle.lists.specs.declared.RouteRange.{RouteRange}
@@ -18,8 +17,8 @@ value_start c = encoded_size (kind_of c) + encoded_size (length (value_of c))
 
 -- every element keeps its rule, and there are as many as there may be
 pub record Ruled {A : Type 0} (f : Format A) (asked : Bool) (limit : ℕ) (xs : List A) : Type 0 where
-  pub elements : judged f [] xs ≡ Go
-  pub number : count_verdict asked limit (length xs) ≡ Go
+  pub elements : judged f [] xs ≡ Ok tt
+  pub number : count_verdict asked limit (length xs) ≡ Ok tt
 
 pub data Sound : Capsule → Type 0 where
   sound-datagram : {v : List ℕ} → length v ≤ max_value → Sound (datagram v)

@@ -4,40 +4,36 @@ ghost use Rattle.capsule.specs.Entries.{read_body, read_entry, read_range};
 ghost use Rattle.capsule.specs.RequestIds.{GoodFront, ReadsId};
 
 use lists::{AddressEntry, RequestId, RouteRange};
-use varint::NumberRead;
 
-// An entry and how many bytes it took; or one that is cut or breaks its rule.
+// An entry and how many bytes it took.
 #[derive(Clone, Copy)]
-pub enum EntryRead {
-    Good { entry: AddressEntry, size: usize },
-    Bad,
+pub struct EntryRead {
+    pub entry: AddressEntry,
+    pub size: usize,
 }
 
 // A range likewise.
 #[derive(Clone, Copy)]
-pub enum RangeRead {
-    Good { range: RouteRange, size: usize },
-    Bad,
+pub struct RangeRead {
+    pub range: RouteRange,
+    pub size: usize,
 }
 
-// The address entry at the front of s: Request ID, version, address, prefix length.
-pub(crate) fn read_entry(s: &[u8]) -> EntryRead
+// The address entry at the front of s: Request ID, version, address, prefix length. None is one that is cut or breaks its rule.
+pub(crate) fn read_entry(s: &[u8]) -> Option<EntryRead>
     ensures { result ≡ read_entry s.now }
 {
-    let r = varint::read(s);
-    match r {
-        NumberRead::Whole { value, size } => read_body(value, size, &s[size..]),
-        NumberRead::Cut => EntryRead::Bad,
-    }
+    let id = varint::read(s)?;
+    read_body(id.value, id.size, &s[id.size..])
 }
 
 // What follows a Request ID of n bytes.
-fn read_body(id: u64, n: usize, t: &[u8]) -> EntryRead
+fn read_body(id: u64, n: usize, t: &[u8]) -> Option<EntryRead>
     requires { n + length t.now < 2 ^ 64 }
     ensures { result ≡ read_body id n t.now }
 {
     if t.len() < 6 {
-        return EntryRead::Bad;
+        return None;
     }
     let request_id = RequestId(id);
     let version = t[0];
@@ -52,15 +48,12 @@ fn read_body(id: u64, n: usize, t: &[u8]) -> EntryRead
             lo,
         };
         if lists::entry_sound(entry) {
-            return EntryRead::Good { entry, size: n + 6 };
+            return Some(EntryRead { entry, size: n + 6 });
         }
-        return EntryRead::Bad;
+        return None;
     }
-    if version != 6 {
-        return EntryRead::Bad;
-    }
-    if t.len() < 18 {
-        return EntryRead::Bad;
+    if version != 6 || t.len() < 18 {
+        return None;
     }
     let prefix = t[17];
     let hi = octets::big_at(t, 1, 8);
@@ -73,12 +66,12 @@ fn read_body(id: u64, n: usize, t: &[u8]) -> EntryRead
         lo,
     };
     if lists::entry_sound(entry) {
-        return EntryRead::Good {
+        return Some(EntryRead {
             entry,
             size: n + 18,
-        };
+        });
     }
-    EntryRead::Bad
+    None
 }
 
 // The Request ID of an entry that is good, and how many bytes the entry takes.
@@ -93,24 +86,20 @@ pub(crate) fn read_id(s: &[u8]) -> IdRead
     requires { GoodFront s.now }
     ensures { ReadsId s.now result }
 {
-    let r = varint::read(s);
-    match r {
-        NumberRead::Whole { value: id, size: n } => {
-            if s[n] == 4 {
-                return IdRead { id, size: n + 6 };
-            }
-            IdRead { id, size: n + 18 }
-        }
-        NumberRead::Cut => IdRead { id: 0, size: 0 },
+    let id = varint::read(s).unwrap();
+    let body = if s[id.size] == 4 { 6 } else { 18 };
+    IdRead {
+        id: id.value,
+        size: id.size + body,
     }
 }
 
 // The route range at the front of s: version, start, end, protocol.
-pub(crate) fn read_range(s: &[u8]) -> RangeRead
+pub(crate) fn read_range(s: &[u8]) -> Option<RangeRead>
     ensures { result ≡ read_range s.now }
 {
     if s.len() < 10 {
-        return RangeRead::Bad;
+        return None;
     }
     let version = s[0];
     if version == 4 {
@@ -126,15 +115,12 @@ pub(crate) fn read_range(s: &[u8]) -> RangeRead
             end_lo,
         };
         if lists::range_sound(range) {
-            return RangeRead::Good { range, size: 10 };
+            return Some(RangeRead { range, size: 10 });
         }
-        return RangeRead::Bad;
+        return None;
     }
-    if version != 6 {
-        return RangeRead::Bad;
-    }
-    if s.len() < 34 {
-        return RangeRead::Bad;
+    if version != 6 || s.len() < 34 {
+        return None;
     }
     let start_hi = octets::big_at(s, 1, 8);
     let start_lo = octets::big_at(s, 9, 8);
@@ -150,7 +136,7 @@ pub(crate) fn read_range(s: &[u8]) -> RangeRead
         end_lo,
     };
     if lists::range_sound(range) {
-        return RangeRead::Good { range, size: 34 };
+        return Some(RangeRead { range, size: 34 });
     }
-    RangeRead::Bad
+    None
 }

@@ -7,16 +7,14 @@
 mod element;
 mod list;
 
-ghost use Rattle.std.specs.Prelude.{◌≡◌, ◌≤◌, min, length};
-ghost use Rattle.answer.specs.Number.{verdict_number};
-ghost use Rattle.capsule.specs.Capsules.{frame_of, frame_at};
+ghost use Rattle.std.specs.Prelude.{◌≡◌, ◌≤◌, length};
+ghost use Rattle.capsule.specs.Capsules.{kind_number, kind_numbered, frame_of, frame_at};
 ghost use Rattle.capsule.specs.Heads.{HeadRead};
-ghost use Rattle.capsule.specs.Results.{refused_at, other_kind, value_verdict, frame_in, read_at};
+ghost use Rattle.capsule.specs.Results.{value_verdict, frame_in, read_at};
 
-use answer::{Refusal, Verdict};
+use answer::Refusal;
 pub use element::{EntryRead, RangeRead};
-pub use list::{EntriesRead, RangesRead, entries_in, entries_into, ranges_in, ranges_into};
-use varint::NumberRead;
+pub use list::{entries_in, entries_into, ranges_in, ranges_into};
 
 // The most bytes of a value of types 0 to 3.
 pub const MAX_VALUE: usize = 16384;
@@ -24,200 +22,153 @@ pub const MAX_VALUE: usize = 16384;
 // The most bytes of type and length.
 pub const HEAD_SIZE: usize = 16;
 
-// The kind of a capsule of any other type than 0 to 3.
-pub const OTHER_KIND: u64 = 4;
+// What a capsule is: types 0 to 3, and any other type, which is skipped.
+#[derive(Clone, Copy, Debug, PartialEq, Eq)]
+pub enum Kind {
+    Datagram,
+    AddressAssign,
+    AddressRequest,
+    RouteAdvertisement,
+    Other,
+}
 
-// What stood at a place of a buffer: the kind is 0 DATAGRAM, 1 ADDRESS_ASSIGN, 2 ADDRESS_REQUEST, 3 ROUTE_ADVERTISEMENT, 4 any other type.
-// The value stands in the buffer from start on, and reading goes on at next. A refusal leaves the place, and all else is 0.
+impl Kind {
+    // The type, and 4 for any other.
+    pub fn number(self) -> u64
+        ensures { result ≡ kind_number self }
+    {
+        match self {
+            Kind::Datagram => 0,
+            Kind::AddressAssign => 1,
+            Kind::AddressRequest => 2,
+            Kind::RouteAdvertisement => 3,
+            Kind::Other => 4,
+        }
+    }
+}
+
+// A capsule at a place of a buffer. The value stands in the buffer from start on, and reading goes on at next. A refusal leaves the place.
 #[derive(Clone, Copy)]
 pub struct CapsuleRead {
-    pub verdict: Verdict,
-    pub kind: u64,
+    pub kind: Kind,
     pub start: usize,
     pub length: usize,
     pub next: usize,
 }
 
-// Type and length at the front of some bytes, and where the value starts; or they are not all there.
+// Type and length at the front of some bytes, and where the value starts.
 #[derive(Clone, Copy)]
-pub enum Head {
-    Known {
-        kind: u64,
-        start: usize,
-        length: u64,
-    },
-    Cut,
+pub struct Head {
+    pub kind: u64,
+    pub start: usize,
+    pub length: u64,
 }
 
 // Where the value of a capsule at the front of some bytes starts, and how long it is.
 #[derive(Clone, Copy)]
-pub enum FrameRead {
-    Value {
-        kind: u64,
-        start: usize,
-        length: usize,
-    },
-    Refused(Refusal),
-}
-
-impl CapsuleRead {
-    // 0, or the refusal's number.
-    pub fn number(self) -> u8
-        ensures { result ≡ verdict_number self.verdict }
-    {
-        let verdict = self.verdict;
-        verdict.number()
-    }
+pub struct FrameRead {
+    pub kind: u64,
+    pub start: usize,
+    pub length: usize,
 }
 
 // The capsule at a place of the buffer. Its list is judged, and not handed back.
-pub fn read(bytes: &[u8], at: usize) -> CapsuleRead
+pub fn read(bytes: &[u8], at: usize) -> Result<CapsuleRead, Refusal>
     ensures { result ≡ read_at bytes.now at }
 {
-    let found = frame(bytes, at);
-    let framed = found.verdict;
-    match framed {
-        Verdict::Go => {
-            let start = found.start;
-            let next = found.next;
-            let verdict = value_verdict(found.kind, &bytes[start..next]);
-            match verdict {
-                Verdict::Go => found,
-                Verdict::Stop(why) => refused(why, at),
-            }
-        }
-        Verdict::Stop(_) => found,
-    }
+    let found = frame(bytes, at)?;
+    value_verdict(found.kind, &bytes[found.start..found.next])?;
+    Ok(found)
 }
 
 // Its kind and its place alone, whatever its value holds.
-pub fn frame(bytes: &[u8], at: usize) -> CapsuleRead
+pub fn frame(bytes: &[u8], at: usize) -> Result<CapsuleRead, Refusal>
     ensures { result ≡ frame_in bytes.now at }
 {
     if bytes.len() < at {
-        return refused(Refusal::Incomplete, at);
+        return Err(Refusal::Incomplete);
     }
-    let f = frame_of(&bytes[at..]);
-    match f {
-        FrameRead::Value {
-            kind,
-            start,
-            length,
-        } => {
-            let place = at + start;
-            CapsuleRead {
-                verdict: Verdict::Go,
-                kind: kind_of(kind),
-                start: place,
-                length,
-                next: place + length,
-            }
-        }
-        FrameRead::Refused(why) => refused(why, at),
-    }
-}
-
-// A refusal at a place.
-pub fn refused(why: Refusal, at: usize) -> CapsuleRead
-    ensures { result ≡ refused_at at why }
-{
-    CapsuleRead {
-        verdict: Verdict::Stop(why),
-        kind: 0,
-        start: 0,
-        length: 0,
-        next: at,
-    }
+    let read = frame_of(&bytes[at..])?;
+    let place = at + read.start;
+    Ok(CapsuleRead {
+        kind: kind_of(read.kind),
+        start: place,
+        length: read.length,
+        next: place + read.length,
+    })
 }
 
 // The kind of a capsule type.
-fn kind_of(number: u64) -> u64
-    ensures { result ≡ min number other_kind }
+fn kind_of(number: u64) -> Kind
+    ensures { result ≡ kind_numbered number }
 {
-    if OTHER_KIND < number {
-        return OTHER_KIND;
+    match number {
+        0 => Kind::Datagram,
+        1 => Kind::AddressAssign,
+        2 => Kind::AddressRequest,
+        3 => Kind::RouteAdvertisement,
+        _ => Kind::Other,
     }
-    number
 }
 
-// Type and length.
-pub fn read_head(s: &[u8]) -> Head
+// Type and length; none where they are not all there.
+pub fn read_head(s: &[u8]) -> Option<Head>
     ensures { HeadRead s.now result }
 {
-    let t = varint::read(s);
-    match t {
-        NumberRead::Whole {
-            value: kind,
-            size: n,
-        } => {
-            let l = varint::read(&s[n..]);
-            match l {
-                NumberRead::Whole {
-                    value: length,
-                    size: m,
-                } => Head::Known {
-                    kind,
-                    start: n + m,
-                    length,
-                },
-                NumberRead::Cut => Head::Cut,
-            }
-        }
-        NumberRead::Cut => Head::Cut,
-    }
+    let kind = varint::read(s)?;
+    let length = varint::read(&s[kind.size..])?;
+    Some(Head {
+        kind: kind.value,
+        start: kind.size + length.size,
+        length: length.value,
+    })
 }
 
 // Type and length, and whether the value is all there.
-fn frame_of(s: &[u8]) -> FrameRead
+fn frame_of(s: &[u8]) -> Result<FrameRead, Refusal>
     ensures { result ≡ frame_of s.now }
 {
-    let h = read_head(s);
-    match h {
-        Head::Known {
-            kind,
-            start,
-            length,
-        } => frame_at(s, kind, start, length),
-        Head::Cut => FrameRead::Refused(Refusal::Incomplete),
-    }
+    let head = read_head(s).ok_or(Refusal::Incomplete)?;
+    frame_at(s, head)
 }
 
-// The frame of a capsule whose value starts at start: no sum is made of a length that is not there.
-fn frame_at(s: &[u8], kind: u64, start: usize, size: u64) -> FrameRead
-    requires { start ≤ length s.now }
-    ensures { result ≡ frame_at s.now kind start size }
+// The frame of a capsule of this head: no sum is made of a length that is not there.
+fn frame_at(s: &[u8], head: Head) -> Result<FrameRead, Refusal>
+    requires { head.start ≤ length s.now }
+    ensures { result ≡ frame_at s.now head.kind head.start head.length }
 {
-    if kind <= 3 {
-        if (MAX_VALUE as u64) < size {
-            return FrameRead::Refused(Refusal::TooLong);
-        }
+    let size = head.length;
+    if head.kind <= 3 && (MAX_VALUE as u64) < size {
+        return Err(Refusal::TooLong);
     }
-    let left = s.len() - start;
+    let left = s.len() - head.start;
     if (left as u64) < size {
-        return FrameRead::Refused(Refusal::Incomplete);
+        return Err(Refusal::Incomplete);
     }
-    FrameRead::Value {
-        kind,
-        start,
+    Ok(FrameRead {
+        kind: head.kind,
+        start: head.start,
         length: size as usize,
-    }
+    })
 }
 
 // The first fault of the value of a capsule of a kind.
-fn value_verdict(kind: u64, value: &[u8]) -> Verdict
+fn value_verdict(kind: Kind, value: &[u8]) -> Result<(), Refusal>
     ensures { result ≡ value_verdict kind value.now }
 {
-    if kind == 1 {
-        let mut words = [0u64; lists::ADDRESS_WORDS];
-        return entries_into(value, false, &mut words);
+    match kind {
+        Kind::AddressAssign => {
+            let mut words = [0u64; lists::ADDRESS_WORDS];
+            entries_into(value, false, &mut words)
+        }
+        Kind::AddressRequest => {
+            let mut words = [0u64; lists::ADDRESS_WORDS];
+            entries_into(value, true, &mut words)
+        }
+        Kind::RouteAdvertisement => {
+            let mut words = [0u64; lists::ROUTE_WORDS];
+            ranges_into(value, &mut words)
+        }
+        Kind::Datagram | Kind::Other => Ok(()),
     }
-    if kind == 2 {
-        let mut words = [0u64; lists::ADDRESS_WORDS];
-        return entries_into(value, true, &mut words);
-    }
-    if kind == 3 {
-        let mut words = [0u64; lists::ROUTE_WORDS];
-        return ranges_into(value, &mut words);
-    }
-    Verdict::Go
 }

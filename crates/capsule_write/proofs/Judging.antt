@@ -1,27 +1,38 @@
 -- The loops that judge a list element by element: what the elements from i on say, after those before, is the verdict. Assumes nothing.
+use Rattle.std.proofs.Common.{Result, Ok, Err}
 use Prim.Native.Nat.{ℕ, zero, suc, ◌+◌, ◌-◌, ◌<◌, ◌≤◌, min}
 use mathlib.Core.Bool.{Bool, true, false, not, ◌&&◌, ◌||◌}
-use mathlib.Core.Path.{◌≡◌, refl, ap, ◌∙◌}
+use mathlib.Core.Path.{◌≡◌, refl, sym, ap, ◌∙◌}
 use mathlib.Core.List.{List, [], ◌∷◌}
 use native.Mathlib.Nat.{sub-zero, not-suc-le-zero}
 use native.Mathlib.Numerals.{add-one, sub-one}
 use native.Mathlib.Omega.{arith}
-use borrow.Author.Tests.{le-leb, lt-leb, eq-eqb, ne_eqb}
+use borrow.Author.Tests.{not-false, le-leb, lt-leb, eq-eqb, ne_eqb}
 use lib.Dec.{eqb}
 use Rattle.answer.specs.declared.Refusal.{Refusal}
 use Rattle.answer.specs.declared.Refusal.TheVariants.{BadRequestId, TooMany, RangesOutOfOrder}
-use Rattle.answer.specs.declared.Verdict.{Verdict}
-use Rattle.answer.specs.declared.Verdict.TheVariants.{Go, Stop}
+use Rattle.answer.specs.Verdict.{stop_if, ◌then◌}
 use Rattle.lists.specs.declared.AddressEntry.{AddressEntry}
 use Rattle.lists.specs.declared.RouteRange.{RouteRange}
 use Rattle.octets.specs.Scan.{from, any_of}
 use Rattle.lists.specs.Rules.{id_of, in_order}
-use Rattle.lists.specs.Words.{max_addresses, max_ranges, count_of, entry_at, range_at}
+use Rattle.lists.specs.Words.{entry_at, range_at}
 use Rattle.octets.proofs.Scans.{from_more, from_end}
 use Rattle.capsule.specs.Elements.{Format, judged, count_verdict}
-use Rattle.capsule.specs.Entries.{entry_format, range_format, entry_follows, range_follows, newest}
+use Rattle.capsule.specs.Entries.{entry_follows, range_follows, newest}
 use Rattle.capsule_write.specs.Earlier.{earlier}
-use Rattle.capsule_write.specs.Verdicts.{entries_verdict, ranges_verdict}
+use Rattle.capsule_write.specs.Verdicts.{element_verdict, list_verdict}
+
+-- ---- verdicts
+
+pub if_go : (t : Bool) (r : Refusal) (v : Result Unit Refusal) → stop_if t r v ≡ Ok tt → (t ≡ false) × (v ≡ Ok tt)
+if_go true r v e = (cc, cc)
+if_go false r v e = (refl, e)
+
+stopped : (t : Bool) (why : Refusal) (v u : Result Unit Refusal) {r : Refusal} → stop_if t why v ≡ Err r → stop_if t why (v then u) ≡ Err r
+stopped true why v u e = e
+stopped false why (Err w) u e = e
+stopped false why (Ok _) u e = cc
 
 -- ---- any kind of element
 
@@ -34,14 +45,14 @@ module _ {A : Type 0} (f : Format A) (at : ℕ → A) (n : ℕ) where
   judge-start = record { within = omega arith; rest = rw sub-zero }
 
 module _ {A : Type 0} {f : Format A} {at : ℕ → A} {n i : ℕ} (s : Judging f at n i) where
-  pub judge-broken : {x : A} → i < n → x ≡ at i → f.sound x ≡ false → Stop f.wrong ≡ judged f [] (from at 0 n)
+  pub judge-broken : {x : A} → i < n → x ≡ at i → f.sound x ≡ false → Err f.wrong ≡ judged f [] (from at 0 n)
   judge-broken h q e = rw (from_more at i n h, ← q, e) at s.rest
 
-  pub judge-refused : {x : A} {r : Refusal} → i < n → x ≡ at i → f.sound x ≡ true → f.follows (earlier at i) x ≡ Stop r
-      → Stop r ≡ judged f [] (from at 0 n)
+  pub judge-refused : {x : A} {r : Refusal} → i < n → x ≡ at i → f.sound x ≡ true → f.follows (earlier at i) x ≡ Err r
+      → Err r ≡ judged f [] (from at 0 n)
   judge-refused h q e g = rw (from_more at i n h, ← q, e, g) at s.rest
 
-  pub judge-next : {x : A} → i < n → x ≡ at i → f.sound x ≡ true → f.follows (earlier at i) x ≡ Go → Judging f at n (i + 1)
+  pub judge-next : {x : A} → i < n → x ≡ at i → f.sound x ≡ true → f.follows (earlier at i) x ≡ Ok tt → Judging f at n (i + 1)
   judge-next {x} h q e g =
       let z : judged f (x ∷ earlier at i) (from at (i + 1) (n - (i + 1))) ≡ judged f [] (from at 0 n) =
       rw (from_more at i n h, ← q, e, g) at s.rest
@@ -49,7 +60,19 @@ module _ {A : Type 0} {f : Format A} {at : ℕ → A} {n i : ℕ} (s : Judging f
       let t : earlier at (i + 1) ≡ x ∷ earlier at i = rw (add-one, q) in
       record { within = omega arith; rest = ap (λ (l : List A). judged f l (from at (i + 1) (n - (i + 1)))) t ∙ z }
 
-  pub judge-end : n ≤ i → Go ≡ judged f [] (from at 0 n)
+  -- the same of what an element says
+  module _ {x : A} {v : Result Unit Refusal} (h : i < n) (q : x ≡ at i) (e : v ≡ element_verdict f (earlier at i) x) where
+    pub judge-fault : {r : Refusal} → v ≡ Err r → Err r ≡ judged f [] (from at 0 n)
+    judge-fault g =
+        let z = stopped (not (f.sound x)) f.wrong (f.follows (earlier at i) x) (judged f (x ∷ earlier at i) (from at (i + 1) (n - (i + 1)))) (rw e at g) in
+        sym z ∙ rw (from_more at i n h, ← q) at s.rest
+
+    pub judge-passed : v ≡ Ok tt → Judging f at n (i + 1)
+    judge-passed g =
+        let t = if_go (not (f.sound x)) f.wrong (f.follows (earlier at i) x) (rw e at g) in
+        judge-next h q (not-false (f.sound x) t.0) t.1
+
+  pub judge-end : n ≤ i → (Ok tt) ≡ judged f [] (from at 0 n)
   judge-end h = rw (from_end at i n h) at s.rest
 
 -- ---- Request IDs
@@ -102,12 +125,12 @@ module _ {w : List ℕ} {i : ℕ} {request : Bool} {id k : ℕ} (s : Looking w i
 
 module _ (w : List ℕ) (i : ℕ) (request : Bool) where
   pub follows-refused : {b : Bool} (e : AddressEntry) → b ≡ refused_id w i request (id_of e) → b ≡ true
-      → entry_follows request (earlier (entry_at w) i) e ≡ Stop BadRequestId
+      → entry_follows request (earlier (entry_at w) i) e ≡ Err BadRequestId
   unfolding entry_follows
   follows-refused e q h = rw (← q, h)
 
   pub follows-go : {b : Bool} (e : AddressEntry) → b ≡ refused_id w i request (id_of e) → b ≡ false
-      → entry_follows request (earlier (entry_at w) i) e ≡ Go
+      → entry_follows request (earlier (entry_at w) i) e ≡ Ok tt
   unfolding entry_follows
   follows-go e q h = rw (← q, h)
 
@@ -117,48 +140,37 @@ pub newest-earlier : (w : List ℕ) (i : ℕ) {r : RouteRange} → r ≡ range_a
 newest-earlier w i q = rw (add-one, ← q)
 
 module _ (rs : List RouteRange) {last : RouteRange} (q : last ≡ newest rs) (r : RouteRange) where
-  pub order-refused : in_order last r ≡ false → range_follows rs r ≡ Stop RangesOutOfOrder
+  pub order-refused : in_order last r ≡ false → range_follows rs r ≡ Err RangesOutOfOrder
   unfolding range_follows
   order-refused h = rw (← q, h)
 
-  pub order-go : in_order last r ≡ true → range_follows rs r ≡ Go
+  pub order-go : in_order last r ≡ true → range_follows rs r ≡ Ok tt
   unfolding range_follows
   order-go h = rw (← q, h)
 
 -- ---- the count
 
 module _ (asked : Bool) (limit : ℕ) where
-  pub count-asked : (n : ℕ) → n ≡ 0 → asked ≡ true → Stop BadRequestId ≡ count_verdict asked limit n
+  pub count-asked : (n : ℕ) → n ≡ 0 → asked ≡ true → Err BadRequestId ≡ count_verdict asked limit n
   count-asked n e h = rw (e, h)
 
-  pub count-unasked : (n : ℕ) → n ≡ 0 → asked ≡ false → Go ≡ count_verdict asked limit n
+  pub count-unasked : (n : ℕ) → n ≡ 0 → asked ≡ false → (Ok tt) ≡ count_verdict asked limit n
   count-unasked n e h = rw (e, h)
 
-  pub count-over : (n : ℕ) → limit < n → Stop TooMany ≡ count_verdict asked limit n
+  pub count-over : (n : ℕ) → limit < n → Err TooMany ≡ count_verdict asked limit n
   count-over zero h = absurd (not-suc-le-zero h)
   count-over (suc n) h = rw (lt-leb (suc n) limit h)
 
-  pub count-within : (n : ℕ) → (n ≡ 0 → ⊥) → n ≤ limit → Go ≡ count_verdict asked limit n
+  pub count-within : (n : ℕ) → (n ≡ 0 → ⊥) → n ≤ limit → (Ok tt) ≡ count_verdict asked limit n
   count-within zero f h = absurd (f refl)
   count-within (suc n) f h = rw (le-leb (suc n) limit h)
 
 -- ---- the verdict of a whole list
 
-module _ (asked : Bool) (w : List ℕ) {n : ℕ} (q : n ≡ min (count_of w) max_addresses) {v : Verdict}
-    (e : v ≡ judged (entry_format asked) [] (from (entry_at w) 0 n)) where
-  pub entries-counted : {r : Verdict} → v ≡ Go → r ≡ count_verdict asked max_addresses (count_of w) → r ≡ entries_verdict asked w
-  unfolding entries_verdict
-  entries-counted g h = rw (← q, ← e, g) h
+module _ {A : Type 0} (f : Format A) (asked : Bool) (limit : ℕ) (at : ℕ → A) (count : ℕ) {n : ℕ} (q : n ≡ min count limit) {v : Result Unit Refusal}
+    (e : v ≡ judged f [] (from at 0 n)) where
+  pub counted : {r : Result Unit Refusal} → v ≡ Ok tt → r ≡ count_verdict asked limit count → r ≡ list_verdict f asked limit at count
+  counted g h = rw (← q, ← e, g) h
 
-  pub entries-fault : {why : Refusal} → v ≡ Stop why → Stop why ≡ entries_verdict asked w
-  unfolding entries_verdict
-  entries-fault g = rw (← q, ← e, g)
-
-module _ (w : List ℕ) {n : ℕ} (q : n ≡ min (count_of w) max_ranges) {v : Verdict} (e : v ≡ judged range_format [] (from (range_at w) 0 n)) where
-  pub ranges-counted : {r : Verdict} → v ≡ Go → r ≡ count_verdict false max_ranges (count_of w) → r ≡ ranges_verdict w
-  unfolding ranges_verdict
-  ranges-counted g h = rw (← q, ← e, g) h
-
-  pub ranges-fault : {why : Refusal} → v ≡ Stop why → Stop why ≡ ranges_verdict w
-  unfolding ranges_verdict
-  ranges-fault g = rw (← q, ← e, g)
+  pub faulty : {why : Refusal} → v ≡ Err why → Err why ≡ list_verdict f asked limit at count
+  faulty g = rw (← q, ← e, g)

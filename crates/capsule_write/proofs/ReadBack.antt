@@ -1,4 +1,5 @@
 -- A capsule that is written keeps the rules of reading, so it is read back as it was, whatever follows it. Assumes nothing.
+use Rattle.std.proofs.Common.{Ok}
 use Prim.Native.Nat.{ℕ, zero, suc, ◌+◌, ◌*◌, ◌^◌, min}
 use mathlib.Core.Bool.{Bool, true, false}
 use mathlib.Core.Path.{◌≡◌, refl, ap, ◌∙◌}
@@ -6,7 +7,6 @@ use mathlib.Core.List.{List, ◌++◌}
 use native.Mathlib.Omega.{arith}
 use borrow.Author.Tests.{lt-ltb}
 use lib.ListN.{length, get_or}
-use Rattle.answer.specs.declared.Verdict.TheVariants.{Go}
 use Rattle.octets.specs.Scan.{from, all_of}
 use Rattle.lists.specs.declared.AddressEntry.{AddressEntry}
 use Rattle.lists.specs.declared.RouteRange.{RouteRange}
@@ -20,19 +20,19 @@ use Rattle.capsule.proofs.RoundTrip.{read-written}
 use Rattle.capsule_write.specs.Verdicts.{Words, value_limit, stored_entries, stored_ranges, entries_verdict, ranges_verdict}
 use Rattle.capsule_write.proofs.Accepted.{entries-go, ranges-go, limit-go}
 
--- ---- a `Go` says that the capsule keeps the rules
+-- ---- an `Ok` says that the capsule keeps the rules
 
-pub datagram-sound : (v : List ℕ) → value_limit v ≡ Go → Sound (datagram v)
+pub datagram-sound : (v : List ℕ) → value_limit v ≡ Ok tt → Sound (datagram v)
 datagram-sound v e = sound-datagram (limit-go v e)
 
 module _ (w : List ℕ) where
-  pub assign-sound : entries_verdict false w ≡ Go → Sound (assign (entries_of w))
+  pub assign-sound : entries_verdict false w ≡ Ok tt → Sound (assign (entries_of w))
   assign-sound e = let g = entries-go false w e in sound-assign (record { elements = g.faultless; number = g.counted })
 
-  pub request-sound : entries_verdict true w ≡ Go → Sound (request (entries_of w))
+  pub request-sound : entries_verdict true w ≡ Ok tt → Sound (request (entries_of w))
   request-sound e = let g = entries-go true w e in sound-request (record { elements = g.faultless; number = g.counted })
 
-  pub advertise-sound : ranges_verdict w ≡ Go → Sound (advertise (ranges_of w))
+  pub advertise-sound : ranges_verdict w ≡ Ok tt → Sound (advertise (ranges_of w))
   advertise-sound e = let g = ranges-go w e in sound-advertise (record { elements = g.faultless; number = g.counted })
 
 -- ---- what words hold
@@ -66,25 +66,25 @@ module _ (w : List ℕ) (h : Words w) where
 
 -- ---- written, and then read
 
-pub read-datagram : (v rest : List ℕ) → value_limit v ≡ Go
+pub read-datagram : (v rest : List ℕ) → value_limit v ≡ Ok tt
     → read_capsule (capsule_bytes (datagram v) ++ rest) ≡ capsule (datagram v) (value_start (datagram v)) (length (capsule_bytes (datagram v)))
 read-datagram v rest e =
     read-written (datagram v) rest (datagram-sound v e) refl (λ q. let z : ◌≡◌ {A = ℕ} 0 1 = cc in omega arith)
 
 module _ (w : List ℕ) (h : Words w) (rest : List ℕ) where
-  pub read-assign : entries_verdict false w ≡ Go
+  pub read-assign : entries_verdict false w ≡ Ok tt
       → read_capsule (capsule_bytes (assign (entries_of w)) ++ rest)
       ≡ capsule (assign (entries_of w)) (value_start (assign (entries_of w))) (length (capsule_bytes (assign (entries_of w))))
   read-assign e =
       read-written (assign (entries_of w)) rest (assign-sound w e) (entries-words w h) (λ q. let z : ◌≡◌ {A = ℕ} 0 1 = cc in omega arith)
 
-  pub read-request : entries_verdict true w ≡ Go
+  pub read-request : entries_verdict true w ≡ Ok tt
       → read_capsule (capsule_bytes (request (entries_of w)) ++ rest)
       ≡ capsule (request (entries_of w)) (value_start (request (entries_of w))) (length (capsule_bytes (request (entries_of w))))
   read-request e =
       read-written (request (entries_of w)) rest (request-sound w e) (entries-words w h) (λ q. let z : ◌≡◌ {A = ℕ} 0 1 = cc in omega arith)
 
-  pub read-advertise : ranges_verdict w ≡ Go
+  pub read-advertise : ranges_verdict w ≡ Ok tt
       → read_capsule (capsule_bytes (advertise (ranges_of w)) ++ rest)
       ≡ capsule (advertise (ranges_of w)) (value_start (advertise (ranges_of w))) (length (capsule_bytes (advertise (ranges_of w))))
   read-advertise e =
@@ -99,7 +99,7 @@ module _ (asked : Bool) (es : List AddressEntry) (r : Ruled (entry_format asked)
       let q : min (length es) max_addresses ≡ length es = omega (arith, (entries-sound asked es r).1) in
       ap (from (entry_at (pack_entries es)) 0) q ∙ entries_packed asked es r
 
-  pub ruled-entries_go : entries_verdict asked (pack_entries es) ≡ Go
+  pub ruled-entries_go : entries_verdict asked (pack_entries es) ≡ Ok tt
   unfolding entries_verdict
   ruled-entries_go = rw (stored-entries, count_pack_entries es, r.elements) r.number
 
@@ -110,6 +110,6 @@ module _ (rs : List RouteRange) (r : Ruled range_format false max_ranges rs) whe
       let q : min (length rs) max_ranges ≡ length rs = omega (arith, (ranges-sound rs r).1) in
       ap (from (range_at (pack_ranges rs)) 0) q ∙ ranges_packed rs r
 
-  pub ruled-ranges_go : ranges_verdict (pack_ranges rs) ≡ Go
+  pub ruled-ranges_go : ranges_verdict (pack_ranges rs) ≡ Ok tt
   unfolding ranges_verdict
   ruled-ranges_go = rw (stored-ranges, count_pack_ranges rs, r.elements) r.number

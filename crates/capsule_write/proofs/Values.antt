@@ -4,17 +4,12 @@ use mathlib.Core.Bool.{Bool, true}
 use mathlib.Core.Path.{◌≡◌, sym, ◌∙◌}
 use mathlib.Core.List.{List, [], ◌++◌, append_assoc, append-nil}
 use native.Mathlib.Nat.{sub-zero, add-zero, zero-add, mul-add, mul-one, not-suc-le-zero}
+use Rattle.std.proofs.Math.Nat.{mul-le-mul_left}
 use native.Mathlib.Omega.{arith}
 use lib.ListN.{length, length-append}
 use Rattle.answer.proofs.Tests.{and_both}
-use Rattle.varint.specs.Numbers.{limit}
-use Rattle.lists.specs.declared.AddressEntry.{AddressEntry}
 use Rattle.octets.specs.Scan.{from, all_of}
-use Rattle.lists.specs.Rules.{id_of, sound_entry}
-use Rattle.lists.specs.Words.{count_of, entry_at, entries_of, sound_addresses}
 use Rattle.octets.proofs.Scans.{from_more, from_end}
-use Rattle.lists.proofs.EntryRule.{entry_facts}
-use Rattle.lists.proofs.ListScans.{addresses_facts}
 use Rattle.capsule.specs.Elements.{Format, written}
 use Rattle.output.specs.Places.{Put}
 use Rattle.output.proofs.Placing.{put-none, put_then}
@@ -64,12 +59,18 @@ module _ {A : Type 0} {f : Format A} {at : ℕ → A} {n most : ℕ} where
         (omega (arith, z), rw e at s.bound)
 
   module _ {start : ℕ} {before : List ℕ} {next : ℕ} {out : List ℕ} {i : ℕ} (s : Putting f at n most start before next out i) where
-    pub put_next : {x : A} {r : ℕ} {after : List ℕ} → i < n → x ≡ at i → Put (f.bytes x) next out r after → length (f.bytes x) ≤ most
+    -- room for all leaves room for the next one
+    pub put_room : i < n → start + most * n ≤ length before → next + most ≤ length out
+    put_room h g =
+        let more : most * (i + 1) ≤ most * n = mul-le-mul_left most (omega (arith, h)) in
+        omega (arith, s.bound, g, s.put.kept, rw (mul-add, mul-one) at more)
+
+    pub put_next : {x : A} {r : ℕ} {after : List ℕ} → i < n → x ≡ at i → Put (f.bytes x) next out r after → r ≤ next + most
         → Putting f at n most start before r after (i + 1)
     put_next {x} {r} {after} h q p g =
         let rest = written f (from at (i + 1) (n - (i + 1))) in
         let z : s.done ++ (f.bytes x ++ rest) ≡ written f (from at 0 n) = rw (from_more at i n h, ← q) at s.rest in
-        let b : next - start + length (f.bytes x) ≤ most * (i + 1) = grows most i (length (f.bytes x)) (next - start) (omega (arith, s.bound)) g in
+        let b : next - start + length (f.bytes x) ≤ most * (i + 1) = grows most i (length (f.bytes x)) (next - start) (omega (arith, s.bound)) (omega (arith, g, p.place)) in
         record {
           within = omega arith;
           done = s.done ++ f.bytes x;
@@ -84,7 +85,7 @@ module _ {A : Type 0} {f : Format A} {at : ℕ → A} {n most : ℕ} where
         let e : s.done ≡ written f (from at 0 n) = sym (append-nil s.done) ∙ z in
         rw e at s.put
 
--- ---- entries
+-- ---- sound elements
 
 all-at : {A : Type 0} (p : A → Bool) (f : ℕ → A) (k n i : ℕ) → all_of p (from f k n) ≡ true → i < n → p (f (k + i)) ≡ true
 all-at p f k zero i s h = absurd (not-suc-le-zero h)
@@ -94,14 +95,8 @@ all-at p f k (suc n) (suc i) s h =
     let e : k + suc i ≡ suc k + i = omega arith in
     rw e (all-at p f (suc k) n i b.1 (omega arith))
 
--- the Request ID of a sound entry has a form
-pub sound-id : (w : List ℕ) (n i : ℕ) {e : AddressEntry} → all_of sound_entry (from (entry_at w) 0 n) ≡ true → i < n → e ≡ entry_at w i
-    → id_of e < limit
-sound-id w n i {e} s h q =
+-- element i of a list of sound ones is sound
+pub sound-at : {A : Type 0} (p : A → Bool) (at : ℕ → A) (n i : ℕ) {x : A} → all_of p (from at 0 n) ≡ true → i < n → x ≡ at i → p x ≡ true
+sound-at p at n i s h q =
     let z : 0 + i ≡ i = omega arith in
-    let a : sound_entry (entry_at w i) ≡ true = rw z at (all-at sound_entry (entry_at w) 0 n i s h) in
-    (entry_facts e (rw q a)).id
-
-pub sound-stored : (w : List ℕ) → sound_addresses (entries_of w) ≡ true → all_of sound_entry (from (entry_at w) 0 (count_of w)) ≡ true
-unfolding entries_of
-sound-stored w s = (addresses_facts (entries_of w) s).1
+    rw (q, ← z) (all-at p at 0 n i s h)

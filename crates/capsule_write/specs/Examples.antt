@@ -1,7 +1,6 @@
 -- Capsules as they are written, and lists that are not, computed.
-use Rattle.std.specs.Prelude.{ℕ, ◌+◌, ◌-◌, ◌*◌, true, false, ◌≡◌, refl, List, [], ◌∷◌, replicate}
+use Rattle.std.specs.Prelude.{ℕ, ◌+◌, ◌-◌, ◌*◌, true, false, ◌≡◌, refl, List, [], ◌∷◌, replicate, Ok, Err}
 use Rattle.answer.specs.declared.Refusal.TheVariants.{NoRoom, BadAddress, RangesOutOfOrder, BadRequestId, TooMany}
-use Rattle.answer.specs.declared.Verdict.TheVariants.{Go, Stop}
 use Rattle.varint.specs.Numbers.{encode}
 use Rattle.lists.specs.declared.AddressEntry.{AddressEntry}
 use Rattle.lists.specs.declared.RouteRange.{RouteRange}
@@ -36,7 +35,7 @@ range4 p a =
 assigned : List ℕ
 assigned = pack_entries (entry4 0 32 ∷ [])
 
-assignment_goes : with_room capsule_room (entries_verdict false assigned) ≡ Go
+assignment_goes : with_room capsule_room (entries_verdict false assigned) ≡ Ok tt
 unfolding with_room entries_verdict entry_at entry_follows sound_entry pack_entries assigned entry4 ipv4
 assignment_goes = refl
 
@@ -52,7 +51,7 @@ no-assignment_bytes = refl
 advertised : List ℕ
 advertised = pack_ranges (range4 17 2 ∷ [])
 
-advertisement_goes : with_room capsule_room (ranges_verdict advertised) ≡ Go
+advertisement_goes : with_room capsule_room (ranges_verdict advertised) ≡ Ok tt
 unfolding with_room ranges_verdict range_at range_follows sound_range in_order pack_ranges advertised range4 ipv4
 advertisement_goes = refl
 
@@ -72,15 +71,15 @@ datagram-bytes = refl
 room : capsule_room ≡ 16392
 room = refl
 
-one_byte_less : with_room (capsule_room - 1) (entries_verdict false assigned) ≡ Stop NoRoom
+one_byte_less : with_room (capsule_room - 1) (entries_verdict false assigned) ≡ Err NoRoom
 unfolding with_room
 one_byte_less = refl
 
-empty-request : with_room capsule_room (entries_verdict true (pack_entries [])) ≡ Stop BadRequestId
+empty-request : with_room capsule_room (entries_verdict true (pack_entries [])) ≡ Err BadRequestId
 unfolding with_room entries_verdict pack_entries
 empty-request = refl
 
-zero_id : with_room capsule_room (entries_verdict true assigned) ≡ Stop BadRequestId
+zero_id : with_room capsule_room (entries_verdict true assigned) ≡ Err BadRequestId
 unfolding with_room entries_verdict entry_at entry_follows sound_entry pack_entries assigned entry4 ipv4
 zero_id = refl
 
@@ -88,11 +87,11 @@ zero_id = refl
 repeated : List ℕ
 repeated = pack_entries (entry4 5 32 ∷ entry4 6 32 ∷ entry4 5 32 ∷ [])
 
-repeated-id : with_room capsule_room (entries_verdict true repeated) ≡ Stop BadRequestId
+repeated-id : with_room capsule_room (entries_verdict true repeated) ≡ Err BadRequestId
 unfolding with_room entries_verdict entry_at entry_follows sound_entry pack_entries repeated entry4 ipv4
 repeated-id = refl
 
-repeated_assignment : with_room capsule_room (entries_verdict false repeated) ≡ Go
+repeated_assignment : with_room capsule_room (entries_verdict false repeated) ≡ Ok tt
 unfolding with_room entries_verdict entry_at entry_follows sound_entry pack_entries repeated entry4 ipv4
 repeated_assignment = refl
 
@@ -100,15 +99,15 @@ repeated_assignment = refl
 one_past : AddressEntry → List ℕ
 one_past e = (max_addresses + 1) ∷ entry_words max_addresses (replicate max_addresses e)
 
-too_many : with_room capsule_room (entries_verdict false (one_past (entry4 0 32))) ≡ Stop TooMany
+too_many : with_room capsule_room (entries_verdict false (one_past (entry4 0 32))) ≡ Err TooMany
 unfolding with_room entries_verdict entry_at entry_follows sound_entry one_past entry4 ipv4
 too_many = refl
 
-broken-first : with_room capsule_room (entries_verdict false (one_past (entry4 0 24))) ≡ Stop BadAddress
+broken-first : with_room capsule_room (entries_verdict false (one_past (entry4 0 24))) ≡ Err BadAddress
 unfolding with_room entries_verdict entry_at entry_follows sound_entry one_past entry4 ipv4
 broken-first = refl
 
 -- UDP and then all protocols
-out_of_order : with_room capsule_room (ranges_verdict (pack_ranges (range4 17 2 ∷ range4 0 3 ∷ []))) ≡ Stop RangesOutOfOrder
+out_of_order : with_room capsule_room (ranges_verdict (pack_ranges (range4 17 2 ∷ range4 0 3 ∷ []))) ≡ Err RangesOutOfOrder
 unfolding with_room ranges_verdict range_at range_follows sound_range in_order pack_ranges range4 ipv4
 out_of_order = refl

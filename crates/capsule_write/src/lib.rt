@@ -8,18 +8,19 @@ mod judge;
 mod list;
 
 ghost use Rattle.std.specs.Prelude.{◌≡◌, true, false, ◌++◌, ◌≤◌, length};
+ghost use Rattle.octets.specs.Scan.{from, all_of};
 ghost use Rattle.varint.specs.Numbers.{encode};
-ghost use Rattle.lists.specs.Words.{address_words, route_words, entries_of, ranges_of, sound_addresses, count_of, max_ranges};
+ghost use Rattle.lists.specs.Words.{count_of};
 ghost use Rattle.capsule.specs.Elements.{written};
-ghost use Rattle.capsule.specs.Entries.{entry_format, range_format};
 ghost use Rattle.capsule.specs.Capsules.{max_value, frame_bytes};
 ghost use Rattle.output.specs.Places.{Put};
 ghost use Rattle.capsule_write.specs.Verdicts.{capsule_room};
-ghost use Rattle.capsule_write.specs.Verdicts.{DatagramWritten, EntriesWritten, AssignWritten, RequestWritten, RequestValueWritten, RoutesWritten};
+ghost use Rattle.capsule_write.specs.Verdicts.{DatagramWritten, ListWritten, AssignWritten, RequestWritten, RequestValueWritten, RoutesWritten};
 
-use answer::{Answer, Refusal, Verdict};
+use crate::element::Element;
+use answer::Refusal;
 use capsule::MAX_VALUE;
-use lists::{ADDRESS_WORDS, ROUTE_WORDS};
+use lists::{ADDRESS_WORDS, AddressEntry, ROUTE_WORDS, RouteRange};
 
 // The room for type and length: they take five bytes at most, since a value is below 2^30.
 pub const HEADER_ROOM: usize = 8;
@@ -28,76 +29,68 @@ pub const HEADER_ROOM: usize = 8;
 pub const CAPSULE_ROOM: usize = MAX_VALUE + HEADER_ROOM;
 
 // A DATAGRAM with this value.
-pub fn write_datagram(value: &[u8], out: &mut [u8]) -> Answer
+pub fn write_datagram(value: &[u8], out: &mut [u8]) -> Result<usize, Refusal>
     ensures { DatagramWritten value.now out.old result out.new }
 {
     if out.len() < CAPSULE_ROOM {
-        return Answer::Refused(Refusal::NoRoom);
+        return Err(Refusal::NoRoom);
     }
     if MAX_VALUE < value.len() {
-        return Answer::Refused(Refusal::TooLong);
+        return Err(Refusal::TooLong);
     }
     let start = put_header(out, 0, value.len());
-    let end = output::put_many(out, start, value);
-    Answer::Done(end)
+    let end = output::put_bytes(out, start, value);
+    Ok(end)
 }
 
 // An ADDRESS_ASSIGN with these entries.
-pub fn write_assign(list: &[u64; ADDRESS_WORDS], out: &mut [u8]) -> Answer
+pub fn write_assign(list: &[u64; ADDRESS_WORDS], out: &mut [u8]) -> Result<usize, Refusal>
     ensures { AssignWritten list.now out.old result out.new }
 {
-    write_addresses(1, false, list, out)
+    write_list::<AddressEntry>(1, false, list, out)
 }
 
 // An ADDRESS_REQUEST with these entries.
-pub fn write_request(list: &[u64; ADDRESS_WORDS], out: &mut [u8]) -> Answer
+pub fn write_request(list: &[u64; ADDRESS_WORDS], out: &mut [u8]) -> Result<usize, Refusal>
     ensures { RequestWritten list.now out.old result out.new }
 {
-    write_addresses(2, true, list, out)
+    write_list::<AddressEntry>(2, true, list, out)
 }
 
 // The entries of a request without type and length.
-pub fn put_request_value(list: &[u64; ADDRESS_WORDS], out: &mut [u8]) -> Answer
+pub fn put_request_value(list: &[u64; ADDRESS_WORDS], out: &mut [u8]) -> Result<usize, Refusal>
     ensures { RequestValueWritten list.now out.old result out.new }
 {
     if out.len() < CAPSULE_ROOM {
-        return Answer::Refused(Refusal::NoRoom);
+        return Err(Refusal::NoRoom);
     }
-    let verdict = judge::entries_verdict(list, true);
-    match verdict {
-        Verdict::Go => Answer::Done(list::put_entries(out, 0, list, list[0] as usize)),
-        Verdict::Stop(why) => Answer::Refused(why),
-    }
+    judge::verdict::<AddressEntry>(list, true)?;
+    Ok(list::put::<AddressEntry>(out, 0, list, list[0] as usize))
 }
 
 // A ROUTE_ADVERTISEMENT with these ranges.
-pub fn write_routes(list: &[u64; ROUTE_WORDS], out: &mut [u8]) -> Answer
+pub fn write_routes(list: &[u64; ROUTE_WORDS], out: &mut [u8]) -> Result<usize, Refusal>
     ensures { RoutesWritten list.now out.old result out.new }
 {
-    if out.len() < CAPSULE_ROOM {
-        return Answer::Refused(Refusal::NoRoom);
-    }
-    let verdict = judge::ranges_verdict(list);
-    match verdict {
-        Verdict::Go => Answer::Done(put_routes(out, list)),
-        Verdict::Stop(why) => Answer::Refused(why),
-    }
+    write_list::<RouteRange>(3, false, list, out)
 }
 
-// The two kinds of capsule with address entries.
-fn write_addresses(kind: u64, request: bool, w: &[u64], out: &mut [u8]) -> Answer
-    requires address_words_in_bounds { address_words ≤ length w.now }
+// A capsule of a list, the kind of which says whether it is a request.
+fn write_list<T: Element>(
+    kind: u64,
+    request: bool,
+    w: &[u64],
+    out: &mut [u8],
+) -> Result<usize, Refusal>
+    requires words_in_bounds { T.words ≤ length w.now }
     requires kind_bound { kind ≤ 3 }
-    ensures { EntriesWritten kind request w.now out.old result out.new }
+    ensures { ListWritten kind request (T.format request) T.LIMIT (T.at w.now) (count_of w.now) out.old result out.new }
 {
     if out.len() < CAPSULE_ROOM {
-        return Answer::Refused(Refusal::NoRoom);
+        return Err(Refusal::NoRoom);
     }
-    let verdict = judge::entries_verdict(w, request);
-    match verdict {
-        Verdict::Go => Answer::Done(put_addresses(out, kind, w)),
-        Verdict::Stop(why) => Answer::Refused(why),
-    }
+    judge::verdict::<T>(w, request)?;
+    Ok(put_list::<T>(out, kind, w))
 }
 
 // Type and length, at the front of the output.
@@ -109,26 +102,16 @@ fn put_header(out: &mut [u8], kind: u64, size: usize) -> usize
     varint::put_number(out, length, size as u64)
 }
 
-// A capsule of a sound list of entries.
-fn put_addresses(out: &mut [u8], kind: u64, w: &[u64]) -> usize
-    requires address_words_in_bounds { address_words ≤ length w.now }
-    requires kind_list_room { (kind ≤ 3) × (sound_addresses (entries_of w.now) ≡ true) × (capsule_room ≤ length out.old) }
-    ensures { Put (frame_bytes kind (written (entry_format false) (entries_of w.now))) 0 out.old result out.new }
+// A capsule of a list of sound elements.
+fn put_list<T: Element>(out: &mut [u8], kind: u64, w: &[u64]) -> usize
+    requires words_in_bounds { T.words ≤ length w.now }
+    requires count_le_limit { count_of w.now ≤ T.LIMIT }
+    requires sound { all_of (T.format false).sound (from (T.at w.now) 0 (count_of w.now)) ≡ true }
+    requires kind_and_room { (kind ≤ 3) × (capsule_room ≤ length out.old) }
+    ensures { Put (frame_bytes kind (written (T.format false) (from (T.at w.now) 0 (count_of w.now)))) 0 out.old result out.new }
 {
     let n = w[0] as usize;
-    let size = list::entries_size(w, n);
+    let size = list::size::<T>(w, n);
     let start = put_header(out, kind, size);
-    list::put_entries(out, start, w, n)
-}
-
-// A capsule of a list of ranges within its limit.
-fn put_routes(out: &mut [u8], w: &[u64]) -> usize
-    requires route_words_in_bounds { route_words ≤ length w.now }
-    requires count_and_room { (count_of w.now ≤ max_ranges) × (capsule_room ≤ length out.old) }
-    ensures { Put (frame_bytes 3 (written range_format (ranges_of w.now))) 0 out.old result out.new }
-{
-    let n = w[0] as usize;
-    let size = list::ranges_size(w, n);
-    let start = put_header(out, 3, size);
-    list::put_ranges(out, start, w, n)
+    list::put::<T>(out, start, w, n)
 }

@@ -1,78 +1,37 @@
-// The values of lists: how long they are, and their bytes.
+// The value of a list: how long it is, and its bytes.
 ghost use Rattle.std.specs.Prelude.{◌≡◌, true, false, ◌+◌, ◌*◌, ◌≤◌, length};
 ghost use Rattle.octets.specs.Scan.{from, all_of};
-ghost use Rattle.lists.specs.Rules.{sound_entry};
-ghost use Rattle.lists.specs.Words.{max_addresses, max_ranges, address_words, route_words, entry_at, range_at};
 ghost use Rattle.capsule.specs.Elements.{written};
-ghost use Rattle.capsule.specs.Entries.{entry_format, range_format};
 ghost use Rattle.output.specs.Places.{Put};
-ghost use Rattle.capsule_write.specs.Sizes.{max_entry, max_range};
 
-use crate::element;
+use crate::element::Element;
 
-// How many bytes the first n entries take.
-pub(crate) fn entries_size(w: &[u64], n: usize) -> usize
-    requires address_words_in_bounds { address_words ≤ length w.now }
-    requires n_le_max_addresses { n ≤ max_addresses }
-    ensures { (result ≡ length (written (entry_format false) (from (entry_at w.now) 0 n))) × (result ≤ max_entry * n) }
+// How many bytes the first n elements take.
+pub(crate) fn size<T: Element>(w: &[u64], n: usize) -> usize
+    requires words_in_bounds { T.words ≤ length w.now }
+    requires n_le_limit { n ≤ T.LIMIT }
+    ensures { (result ≡ length (written (T.format false) (from (T.at w.now) 0 n))) × (result ≤ T.most * n) }
 {
     let mut size: usize = 0;
-    let mut i: usize = 0;
-    while i < n {
-        let e = lists::entry_at(w, i);
-        size += element::entry_size(e);
-        i += 1;
+    for i in 0..n {
+        let e = T::stored(w, i);
+        size += e.size();
     }
     size
 }
 
-// Puts the first n entries.
-pub(crate) fn put_entries(out: &mut [u8], at: usize, w: &[u64], n: usize) -> usize
-    requires address_words_in_bounds { address_words ≤ length w.now }
-    requires n_le_max_addresses { n ≤ max_addresses }
-    requires entries_sound { all_of sound_entry (from (entry_at w.now) 0 n) ≡ true }
-    requires room { at + max_entry * n ≤ length out.old }
-    ensures { Put (written (entry_format false) (from (entry_at w.now) 0 n)) at out.old result out.new }
+// Puts the first n elements.
+pub(crate) fn put<T: Element>(out: &mut [u8], at: usize, w: &[u64], n: usize) -> usize
+    requires words_in_bounds { T.words ≤ length w.now }
+    requires n_le_limit { n ≤ T.LIMIT }
+    requires sound { all_of (T.format false).sound (from (T.at w.now) 0 n) ≡ true }
+    requires room { at + T.most * n ≤ length out.old }
+    ensures { Put (written (T.format false) (from (T.at w.now) 0 n)) at out.old result out.new }
 {
     let mut next = at;
-    let mut i: usize = 0;
-    while i < n {
-        let e = lists::entry_at(w, i);
-        next = element::put_entry_bytes(out, next, e);
-        i += 1;
-    }
-    next
-}
-
-// How many bytes the first n ranges take.
-pub(crate) fn ranges_size(w: &[u64], n: usize) -> usize
-    requires route_words_in_bounds { route_words ≤ length w.now }
-    requires n_le_max_ranges { n ≤ max_ranges }
-    ensures { (result ≡ length (written range_format (from (range_at w.now) 0 n))) × (result ≤ max_range * n) }
-{
-    let mut size: usize = 0;
-    let mut i: usize = 0;
-    while i < n {
-        let r = lists::range_at(w, i);
-        size += element::range_size(r);
-        i += 1;
-    }
-    size
-}
-
-// Puts the first n ranges.
-pub(crate) fn put_ranges(out: &mut [u8], at: usize, w: &[u64], n: usize) -> usize
-    requires route_words_in_bounds { route_words ≤ length w.now }
-    requires n_le_max_ranges { n ≤ max_ranges }
-    requires room { at + max_range * n ≤ length out.old }
-    ensures { Put (written range_format (from (range_at w.now) 0 n)) at out.old result out.new }
-{
-    let mut next = at;
-    let mut i: usize = 0;
-    while i < n {
-        let r = lists::range_at(w, i);
-        next = element::put_range_bytes(out, next, r);
-        i += 1;
+    for i in 0..n {
+        let e = T::stored(w, i);
+        next = e.put(out, next);
     }
     next
 }

@@ -10,8 +10,7 @@ use lib.Seq.{get_or-drop, drop-drop, get_or-append-add}
 use lib.Dec.{ltb, leb, eqb}
 use borrow.Author.Tests.{ltb-false, leb-true, leb-false, lt-ltb, le-ltb, eq-eqb, ne_eqb}
 use Rattle.answer.specs.Choice.{pick}
-use Rattle.chain.specs.declared.Carried.{Carried}
-use Rattle.chain.specs.declared.Carried.TheVariants.{Protocol, BadForm}
+use Rattle.std.specs.Prelude.{Option, Some, None}
 use Rattle.chain.specs.Chain.{plain, fragment, class_of, size_of, offset_of, later, onward, behind, walk, chain}
 
 -- a header has 8 bytes at least
@@ -24,11 +23,11 @@ size-least c l = go (eqb c fragment)
     go false = omega arith
 
 -- what lies behind a header counts where that is there whole
-onward-same : (n : ℕ) (l : List ℕ) {r s : Carried} → (size_of (class_of n) l ≤ length l → r ≡ s) → onward n l r ≡ onward n l s
+onward-same : (n : ℕ) (l : List ℕ) {r s : Option ℕ} → (size_of (class_of n) l ≤ length l → r ≡ s) → onward n l r ≡ onward n l s
 unfolding onward
 onward-same n l {r} {s} f = go (eqb (class_of n) plain) (ltb (length l) (size_of (class_of n) l)) (later (class_of n) l) (λ e. f (ltb-false _ _ e))
   where
-    go : (a b c : Bool) → (b ≡ false → r ≡ s) → pick a (Protocol n) (pick b BadForm (pick c (Protocol n) r)) ≡ pick a (Protocol n) (pick b BadForm (pick c (Protocol n) s))
+    go : (a b c : Bool) → (b ≡ false → r ≡ s) → pick a (Some n) (pick b None (pick c (Some n) r)) ≡ pick a (Some n) (pick b None (pick c (Some n) s))
     go true b c g = refl
     go false true c g = refl
     go false false true g = refl
@@ -57,17 +56,17 @@ module _ (n : ℕ) (l : List ℕ) where
       let b = behind-shorter n l w in
       walk-enough (length l) (suc (length (behind n l))) (get_or l 0 0) (behind n l) (omega arith) (omega arith))
 
-  pub chain-plain : class_of n ≡ plain → chain n l ≡ Protocol n
+  pub chain-plain : class_of n ≡ plain → chain n l ≡ Some n
   unfolding onward
   chain-plain e = rw (chain-step, eq-eqb _ _ e)
 
   module _ (x : class_of n ≡ plain → ⊥) where
-    pub chain-past : length l < size_of (class_of n) l → chain n l ≡ BadForm
+    pub chain-past : length l < size_of (class_of n) l → chain n l ≡ None
     unfolding onward
     chain-past h = rw (chain-step, ne_eqb _ _ x, lt-ltb _ _ h)
 
     module _ (h : size_of (class_of n) l ≤ length l) where
-      pub chain-later : later (class_of n) l ≡ true → chain n l ≡ Protocol n
+      pub chain-later : later (class_of n) l ≡ true → chain n l ≡ Some n
       unfolding onward
       chain-later e = rw (chain-step, ne_eqb _ _ x, le-ltb _ _ h, e)
 
@@ -133,21 +132,21 @@ module _ (p : List ℕ) (first : ℕ) where
     left : length (drop at p) ≡ length p - at
     left = length-drop at p
 
-    pub walk-plain : class ≡ plain → Protocol number ≡ chain first (drop 40 p)
+    pub walk-plain : class ≡ plain → Some number ≡ chain first (drop 40 p)
     walk-plain e = sym (chain-plain number (drop at p) (sym w.named ∙ e)) ∙ w.rest
 
     module _ (x : class ≡ plain → ⊥) where
       named : class_of number ≡ plain → ⊥
       named e = x (w.named ∙ e)
 
-      pub walk-past : length p - at < size_of class (drop at p) → BadForm ≡ chain first (drop 40 p)
+      pub walk-past : length p - at < size_of class (drop at p) → None ≡ chain first (drop 40 p)
       walk-past h = sym (chain-past number (drop at p) named (rw (sym w.named) (omega (arith, left)))) ∙ w.rest
 
       module _ (h : size_of class (drop at p) ≤ length p - at) where
         fits : size_of (class_of number) (drop at p) ≤ length (drop at p)
         fits = rw (sym w.named) (omega (arith, left))
 
-        pub walk-later : later class (drop at p) ≡ true → Protocol number ≡ chain first (drop 40 p)
+        pub walk-later : later class (drop at p) ≡ true → Some number ≡ chain first (drop 40 p)
         walk-later e = sym (chain-later number (drop at p) named fits (rw (sym w.named) e)) ∙ w.rest
 
         pub walk-next : later class (drop at p) ≡ false → {n s c : ℕ} → n ≡ get_or p at 0 → s ≡ size_of class (drop at p) → c ≡ class_of n

@@ -1,24 +1,42 @@
--- A rule of a table: one test, computed over all of its entries, gives the rule at each. Assumes nothing.
-use mathlib.Core.Path.{◌≡◌, sym, ap, ◌∙◌}
+-- The table of classes keeps its rule at each of its entries if one test, computed over all of them, says so. Assumes nothing.
+use mathlib.Core.Path.{◌≡◌, refl, sym, ap, ◌∙◌}
 use mathlib.Core.Bool.{Bool, true, ◌&&◌}
 use mathlib.Core.List.{List, [], ◌∷◌}
 use Prim.Native.Nat.{ℕ, zero, suc, ◌+◌, ◌<◌}
 use native.Mathlib.Nat.{add-zero, zero-add, add-suc, suc-add, le_of_suc-le-suc, not-suc-le-zero}
+use native.Mathlib.Omega.{arith}
 use lib.Dec.{eqb}
 use lib.ListN.{length, get_or}
 use borrow.Author.Tests.{eqb-true}
 use Rattle.answer.proofs.Tests.{and_both}
+use Rattle.chain.specs.declared.class.Class.{Class}
+use Rattle.chain.specs.declared.class.Class.TheVariants.{Plain, Fragment, Fours, Eights}
+use Rattle.chain.specs.Chain.{plain, fragment}
+use Rattle.chain.specs.Class.{number_of}
 
--- each entry is what the rule says of its place, counted from i
-abbrev pub follows : (ℕ → ℕ) → ℕ → List ℕ → Bool
+-- the number of each entry is what the rule says of its place, counted from i
+abbrev pub follows : (ℕ → ℕ) → ℕ → List Class → Bool
 follows rule i [] = true
-follows rule i (x ∷ xs) = eqb x (rule i) && follows rule (suc i) xs
+follows rule i (x ∷ xs) = eqb (number_of x) (rule i) && follows rule (suc i) xs
 
-entry-from : (rule : ℕ → ℕ) (xs : List ℕ) (i : ℕ) → follows rule i xs ≡ true → (k : ℕ) → k < length xs → get_or xs k 0 ≡ rule (i + k)
-entry-from rule [] i t k h = absurd (not-suc-le-zero h)
-entry-from rule (x ∷ xs) i t zero h = eqb-true x (rule i) (and_both _ _ t).0 ∙ ap rule (sym (add-zero i))
-entry-from rule (x ∷ xs) i t (suc k) h =
-    entry-from rule xs (suc i) (and_both (eqb x (rule i)) _ t).1 k (le_of_suc-le-suc h) ∙ ap rule (suc-add i k ∙ sym (add-suc i k))
+entry-from : (rule : ℕ → ℕ) (xs : List Class) (d : Class) (i : ℕ) → follows rule i xs ≡ true → (k : ℕ) → k < length xs → number_of (get_or xs k d) ≡ rule (i + k)
+entry-from rule [] d i t k h = absurd (not-suc-le-zero h)
+entry-from rule (x ∷ xs) d i t zero h = eqb-true (number_of x) (rule i) (and_both _ _ t).0 ∙ ap rule (sym (add-zero i))
+entry-from rule (x ∷ xs) d i t (suc k) h =
+    entry-from rule xs d (suc i) (and_both (eqb (number_of x) (rule i)) _ t).1 k (le_of_suc-le-suc h) ∙ ap rule (suc-add i k ∙ sym (add-suc i k))
 
-pub entry : (rule : ℕ → ℕ) (xs : List ℕ) → follows rule 0 xs ≡ true → (k : ℕ) → k < length xs → get_or xs k 0 ≡ rule k
-entry rule xs t k h = entry-from rule xs 0 t k h ∙ ap rule (zero-add k)
+pub entry : (rule : ℕ → ℕ) (xs : List Class) (d : Class) → follows rule 0 xs ≡ true → (k : ℕ) → k < length xs → number_of (get_or xs k d) ≡ rule k
+entry rule xs d t k h = entry-from rule xs d 0 t k h ∙ ap rule (zero-add k)
+
+-- the classes by their numbers
+pub is_plain : (c : Class) → number_of c ≡ plain → c ≡ Plain
+is_plain Plain e = refl
+is_plain Fragment e = absurd (omega arith)
+is_plain Fours e = absurd (omega arith)
+is_plain Eights e = absurd (omega arith)
+
+pub is_fragment : (c : Class) → number_of c ≡ fragment → c ≡ Fragment
+is_fragment Plain e = absurd (omega arith)
+is_fragment Fragment e = refl
+is_fragment Fours e = absurd (omega arith)
+is_fragment Eights e = absurd (omega arith)

@@ -1,8 +1,6 @@
 -- The chain of IPv6 headers (RFC 8200, section 4; RFC 9484, section 4.8): from the number in the IPv6 header on, to the first that names no extension header.
-use Rattle.std.specs.Prelude.{ℕ, zero, suc, ◌+◌, ◌*◌, ◌/◌, ◌<◌, ◌≤◌, ◌≡◌, Bool, true, false, not, ◌&&◌, ◌||◌, List, length, get_or, drop, ltb, eqb}
+use Rattle.std.specs.Prelude.{ℕ, zero, suc, ◌+◌, ◌*◌, ◌/◌, ◌<◌, ◌≤◌, ◌≡◌, Option, Some, None, Bool, true, false, not, ◌&&◌, ◌||◌, List, length, get_or, drop, ltb, eqb}
 use Rattle.answer.specs.Choice.{pick}
-use Rattle.chain.specs.declared.Carried.{Carried}
-use Rattle.chain.specs.declared.Carried.TheVariants.{Protocol, BadForm}
 
 -- the most bytes behind an IPv6 header
 abbrev pub max_payload : ℕ
@@ -48,36 +46,36 @@ later class l = eqb class fragment && not (eqb (offset_of l) 0)
 -- ---- the walk
 
 -- where the number n leads, with its header at the front of l and with rest behind it. Each header has to be there whole, the last one too
-unfoldable pub onward : ℕ → List ℕ → Carried → Carried
+unfoldable pub onward : ℕ → List ℕ → Option ℕ → Option ℕ
 onward n l rest =
-    pick (eqb (class_of n) plain) (Protocol n)
-    (pick (ltb (length l) (size_of (class_of n) l)) BadForm (pick (later (class_of n) l) (Protocol n) rest))
+    pick (eqb (class_of n) plain) (Some n)
+    (pick (ltb (length l) (size_of (class_of n) l)) None (pick (later (class_of n) l) (Some n) rest))
 
 -- what lies behind it
 abbrev pub behind : ℕ → List ℕ → List ℕ
 behind n l = drop (size_of (class_of n) l) l
 
 -- the same for k headers at most: the number of the next is byte 0
-unfoldable pub walk : ℕ → ℕ → List ℕ → Carried
-walk zero n l = BadForm
+unfoldable pub walk : ℕ → ℕ → List ℕ → Option ℕ
+walk zero n l = None
 walk (suc k) n l = onward n l (walk k (get_or l 0 0) (behind n l))
 
 -- as many as there are bytes are enough, since each has 8 at least: `chain-step`
-unfoldable pub chain : ℕ → List ℕ → Carried
+unfoldable pub chain : ℕ → List ℕ → Option ℕ
 chain n l = walk (suc (length l)) n l
 
 -- the chain of an IPv6 packet: its first number is byte 6, and its headers stand behind the 40 bytes of the IPv6 header
-unfoldable pub chain_of : List ℕ → Carried
+unfoldable pub chain_of : List ℕ → Option ℕ
 chain_of p = chain (get_or p 6 0) (drop 40 p)
 
 -- whether it is there whole, and the protocol that it leads to
-abbrev pub whole : Carried → Bool
-whole (Protocol n) = true
-whole BadForm = false
+abbrev pub whole : Option ℕ → Bool
+whole (Some n) = true
+whole None = false
 
-abbrev pub protocol_in : Carried → ℕ
-protocol_in (Protocol n) = n
-protocol_in BadForm = 0
+abbrev pub protocol_in : Option ℕ → ℕ
+protocol_in (Some n) = n
+protocol_in None = 0
 
 -- a header of a class, so many units of 4 bytes behind an IPv6 header at the front of some bytes, has r units and lies in these bytes; 0 says nothing
 pub record InFront (front : List ℕ) (quads class r : ℕ) : Type 0 where

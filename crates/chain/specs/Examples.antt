@@ -1,6 +1,5 @@
 -- Computed examples: chains of IPv6 headers, each header by the section of RFC 8200 that shows it, or as said. Assumes nothing.
-use Rattle.std.specs.Prelude.{◌≡◌, refl, Bool, true, not, ◌&&◌, List, [], ◌∷◌, ◌++◌, ℕ, zero, suc, take}
-use Rattle.chain.specs.declared.Carried.TheVariants.{Protocol, BadForm}
+use Rattle.std.specs.Prelude.{◌≡◌, refl, Some, None, Bool, true, not, ◌&&◌, List, [], ◌∷◌, ◌++◌, ℕ, zero, suc, take}
 use Rattle.chain.specs.Chain.{class_of, size_of, later, onward, walk, chain, whole}
 
 -- hop-by-hop options (section 4.3): 8 bytes, all of them PadN
@@ -42,7 +41,7 @@ long_chain =
     hop_by_hop 60
     ++ (destination_options 43 ++ (routing 44 ++ (fragment_of 51 0x00 0x01 ++ (authentication 60 ++ (destination_options 58 ++ echo)))))
 
-chain-long : chain 0 long_chain ≡ Protocol 58
+chain-long : chain 0 long_chain ≡ Some 58
 unfolding long_chain hop_by_hop destination_options routing fragment_of authentication echo chain walk onward class_of size_of later
 chain-long = refl
 
@@ -55,29 +54,29 @@ chain-cut : cut_all 96 0 long_chain ≡ true
 unfolding cut_all long_chain hop_by_hop destination_options routing fragment_of authentication echo chain walk onward class_of size_of later
 chain-cut = refl
 
-chain_uncut : chain 0 (take 96 long_chain) ≡ Protocol 58
+chain_uncut : chain 0 (take 96 long_chain) ≡ Some 58
 unfolding long_chain hop_by_hop destination_options routing fragment_of authentication echo chain walk onward class_of size_of later
 chain_uncut = refl
 
 -- no extension header: encrypted content, and no content
-chain_50 : chain 50 [] ≡ Protocol 50
+chain_50 : chain 50 [] ≡ Some 50
 unfolding chain walk onward class_of
 chain_50 = refl
 
-chain_59 : chain 135 (mobility 59) ≡ Protocol 59
+chain_59 : chain 135 (mobility 59) ≡ Some 59
 unfolding mobility chain walk onward class_of size_of later
 chain_59 = refl
 
 -- a first fragment goes on, whatever its flag and its two reserved bits say; a later one does not
-chain_first : chain 44 (fragment_of 58 0x00 0x07 ++ echo) ≡ Protocol 58
+chain_first : chain 44 (fragment_of 58 0x00 0x07 ++ echo) ≡ Some 58
 unfolding fragment_of echo chain walk onward class_of size_of later
 chain_first = refl
 
-chain_next_offset : chain 44 (fragment_of 58 0x00 0x08 ++ echo) ≡ Protocol 44
+chain_next_offset : chain 44 (fragment_of 58 0x00 0x08 ++ echo) ≡ Some 44
 unfolding fragment_of echo chain walk onward class_of size_of later
 chain_next_offset = refl
 
-chain_1448 : chain 44 (fragment_of 58 0x05 0xa9) ≡ Protocol 44
+chain_1448 : chain 44 (fragment_of 58 0x05 0xa9) ≡ Some 44
 unfolding fragment_of chain walk onward class_of size_of later
 chain_1448 = refl
 
@@ -87,6 +86,6 @@ unfolding cut_all fragment_of chain walk onward class_of size_of later
 chain_1448-cut = refl
 
 -- a length byte that lies
-chain_lies : chain 0 (58 ∷ 0xff ∷ 0x01 ∷ 0x04 ∷ 0x00 ∷ 0x00 ∷ 0x00 ∷ 0x00 ∷ echo) ≡ BadForm
+chain_lies : chain 0 (58 ∷ 0xff ∷ 0x01 ∷ 0x04 ∷ 0x00 ∷ 0x00 ∷ 0x00 ∷ 0x00 ∷ echo) ≡ None
 unfolding echo chain walk onward class_of size_of
 chain_lies = refl

@@ -1,21 +1,15 @@
 -- What the box promises, in the paper's words and order. Each is a statement about the very definitions that the contracts cite:
 -- `send_answer`, `send_output`, `receive_answer` and `receive_output` are what those of `tunnel::send` and `tunnel::receive` say of the state that the
 -- lent words mean (`state_in`). "Room" is an output that is large enough and nothing handed in that breaks its own rules.
-use Rattle.std.specs.Prelude.{ℕ, ◌+◌, ◌-◌, ◌%◌, ◌<◌, ◌≤◌, ◌≡◌, refl, true, false, ◌⊎◌, length, get_or, take, drop, replicate}
+use Rattle.std.specs.Prelude.{ℕ, ◌+◌, ◌-◌, ◌%◌, ◌<◌, ◌≤◌, ◌≡◌, refl, true, false, ◌⊎◌, length, get_or, take, drop, replicate, Result, Ok, Err, Some, None}
 use mathlib.Core.List.{List, [], ◌++◌, flatten}
 use Rattle.answer.specs.declared.Refusal.{Refusal}
 use Rattle.answer.specs.declared.Refusal.TheVariants.{BrokenState, NoRoom}
-use Rattle.answer.specs.declared.Answer.{Answer}
-use Rattle.answer.specs.declared.Answer.TheVariants.{Done}
-use Rattle.answer.specs.declared.Verdict.{Verdict}
-use Rattle.answer.specs.declared.Verdict.TheVariants.{Stop}
 use Rattle.answer.specs.Number.{answer_number, answer_length}
 use Rattle.answer.specs.Verdict.{Writes}
 use Rattle.octets.specs.Big.{Bytes}
-use Rattle.varint.specs.declared.NumberRead.TheVariants.{Whole}
-use Rattle.varint.specs.Numbers.{read_number, encode, write_verdict}
+use Rattle.varint.specs.Numbers.{read_number, encode, write_verdict, number}
 use Rattle.octets.specs.Scan.{any_of}
-use Rattle.chain.specs.declared.Carried.TheVariants.{Protocol, BadForm}
 use Rattle.chain.specs.Chain.{plain, class_of, size_of, offset_of, onward, behind, chain, chain_of}
 use Rattle.inet.specs.Sum.{fold}
 use Rattle.inet.specs.Update.{complement, equation3}
@@ -29,7 +23,9 @@ use Rattle.inet.specs.Transport.{field_of, damaged}
 use Rattle.lists.specs.declared.AddressEntry.{AddressEntry}
 use Rattle.lists.specs.declared.RouteRange.{RouteRange}
 use Rattle.lists.specs.Words.{address_words, route_words, entries_of, ranges_of}
+use Rattle.capsule.specs.declared.Kind.{Kind}
 use Rattle.capsule.specs.declared.CapsuleRead.{CapsuleRead}
+use Rattle.capsule.specs.Results.{next_after}
 use Rattle.capsule.specs.Capsules.{max_value, Capsule, datagram, assign, request, advertise, unknown, capsule, read_capsule, capsule_bytes}
 use Rattle.capsule.specs.Sound.{Sound, in_words, value_start}
 use Rattle.capsule.specs.Shortest.{shortest_capsule}
@@ -57,10 +53,10 @@ use Rattle.exchange.proofs.ReadLaws.{request-handed, datagram_leaves, other_leav
 use Rattle.exchange.proofs.WriteLaws.{assign_gives, advertise_gives, assign-received, advertise-received}
 use Rattle.exchange.proofs.WriteLaws.{assign_value_gives, advertise_value_gives, assign-keeps_sound, advertise-keeps_sound}
 use Rattle.exchange.proofs.WriteLaws.{assign_value_keeps_sound, advertise_value_keeps_sound, assign_value_received, advertise_value_received}
-use Rattle.stream.specs.declared.feeding.Call.TheVariants.{Handed, Between, Wait, Stopped}
+use Rattle.stream.specs.declared.feeding.Call.TheVariants.{Handed, Between, Wait}
 use Rattle.stream.specs.declared.feeding.Piece.{Piece}
 use Rattle.stream.specs.Store.{empty, sound_store}
-use Rattle.stream.specs.Feeding.{kept_size, store_in, Feeds}
+use Rattle.stream.specs.Feeding.{kept_size, store_in, call_by, taken_by, Feeds}
 use Rattle.stream.specs.Handing.{HandsOn}
 use Rattle.stream.specs.Runs.{Lent, Ready, Calls, Through, ReadsAll, SameAs, Repeats, EndsIn, LeavesAll, Remembers, Rests, Waits}
 use Rattle.stream.proofs.FeedLaws.{ready-within, feed_keeps_sound, hand_keeps_sound}
@@ -90,11 +86,11 @@ use Rattle.ends.proofs.Crossing.{exchanged_mirror, whole_way, fresh-sound}
 -- ---- 1. Any bytes get an answer. A refusal returns length 0, alters no lent byte and no word of the state, and consumes nothing
 
 -- the one law of everything that writes
-pub refused_leaves : (v : Verdict) {m before after : List ℕ} {r : Answer} → Writes v m before r after → Leaves r before after
+pub refused_leaves : (v : Result Unit Refusal) {m before after : List ℕ} {r : Result ℕ Refusal} → Writes v m before r after → Leaves r before after
 refused_leaves = writes_leaves
 
 -- a number, the four capsules, the entries of a request as bytes, a plan file, a packet, a datagram
-module _ {before after : List ℕ} {r : Answer} where
+module _ {before after : List ℕ} {r : Result ℕ Refusal} where
   pub number-refused : (v : ℕ) → Writes (write_verdict v (length before)) (encode v) before r after → Leaves r before after
   number-refused v = writes_leaves _
 
@@ -123,26 +119,26 @@ module _ {before after : List ℕ} {r : Answer} where
   receive_refused w d s = writes_leaves _ s.writes
 
 -- a plan file that is refused leaves the table, and the state
-pub load_refused : (file before after : List ℕ) (r : Verdict) → Loads file before r after → (why : Refusal) → r ≡ Stop why → after ≡ before
+pub load_refused : (file before after : List ℕ) (r : Result Unit Refusal) → Loads file before r after → (why : Refusal) → r ≡ Err why → after ≡ before
 load_refused = load_leaves
 
-pub state-load_refused : (file w after : List ℕ) (r : Verdict) → LoadsPlan file w r after → (why : Refusal) → r ≡ Stop why → after ≡ w
+pub state-load_refused : (file w after : List ℕ) (r : Result Unit Refusal) → LoadsPlan file w r after → (why : Refusal) → r ≡ Err why → after ≡ w
 state-load_refused = state_load_leaves
 
 -- a capsule that is refused alters no word of the state and of the host's list for requests, and consumes nothing
-pub read-refused : {w s : List ℕ} {at : ℕ} {l : List ℕ} {r : CapsuleRead} {after list : List ℕ} → ReadsCapsule w s at l r after list
-    → (why : Refusal) → r.verdict ≡ Stop why → (after ≡ w) × (list ≡ l) × (r.next ≡ at)
+pub read-refused : {w s : List ℕ} {at : ℕ} {l : List ℕ} {r : Result CapsuleRead Refusal} {after list : List ℕ} → ReadsCapsule w s at l r after list
+    → (why : Refusal) → r ≡ Err why → (after ≡ w) × (list ≡ l) × (next_after at r ≡ at)
 read-refused = read_refusal_leaves
 
 -- a list that is refused, to be assigned or advertised, in words or as bytes, alters no word of the state and no byte of the output
-pub list-refused : (v : Verdict) {m new w before : List ℕ} {r : Answer} {left after : List ℕ} → Gives v m new w before r left after
+pub list-refused : (v : Result Unit Refusal) {m new w before : List ℕ} {r : Result ℕ Refusal} {left after : List ℕ} → Gives v m new w before r left after
     → (answer_number r ≡ 0 → ⊥) → (answer_length r ≡ 0) × (after ≡ before) × (left ≡ w)
 list-refused = gives_leaves
 
 -- the functions for C: what they hand over has the number and the length of such an answer
 module _ {r : PlainAnswer} where
-  pub plain-refused : {P : Answer → Type 0} {before after : List ℕ} → Plainly plain_answer P r → (r.number ≡ 0 → ⊥)
-      → ((a : Answer) → P a → Leaves a before after) → (r.length ≡ 0) × (after ≡ before)
+  pub plain-refused : {P : Result ℕ Refusal → Type 0} {before after : List ℕ} → Plainly plain_answer P r → (r.number ≡ 0 → ⊥)
+      → ((a : Result ℕ Refusal) → P a → Leaves a before after) → (r.length ≡ 0) × (after ≡ before)
   plain-refused q h law = plainly_leaves q h law
 
   module _ (w l : List ℕ) {before left after : List ℕ} (refused : r.number ≡ 0 → ⊥) where
@@ -158,9 +154,9 @@ plain-read_refused = plainly_read_leaves
 
 -- ---- 1 as request 01 amends it: the stream in pieces. `Lent w held`: the state and the memory for kept bytes have their sizes. `Ready w held`: and lists,
 -- templates and store keep their rules. `store_in w held` is what is kept
-module _ {w held t before l : List ℕ} {r : Piece} {later holds after list : List ℕ} (c : Feeds w held t before l r later holds after list) where
+module _ {w held t before l : List ℕ} {r : Result Piece Refusal} {later holds after list : List ℕ} (c : Feeds w held t before l r later holds after list) where
   -- a refusal alters nothing that was lent, or it is one of 2 to 7, and the word that remembers it is all that it alters
-  pub feed_refused : Lent w held → Bytes t → (why : Refusal) → r.call ≡ Stopped why
+  pub feed_refused : Lent w held → Bytes t → (why : Refusal) → r ≡ Err why
       → LeavesAll why w held before l r later holds after list ⊎ Remembers why w held before l r later holds after list
   feed_refused = refused-either c
 
@@ -177,19 +173,19 @@ module _ {w held t before l : List ℕ} {r : Piece} {later holds after list : Li
 
   module _ (ready : Ready w held) (room : max_value ≤ length before) where
     -- what is remembered is repeated, and then alters nothing
-    pub feed_repeats : (why : Refusal) → (store_in w held).stopped ≡ Stop why → LeavesAll why w held before l r later holds after list
+    pub feed_repeats : (why : Refusal) → (store_in w held).stopped ≡ Err why → LeavesAll why w held before l r later holds after list
     feed_repeats = repeats c ready room
 
     -- 1 is given only while a capsule is open, takes all bytes, and changes only what is kept
-    pub feed_waits : Bytes t → r.call ≡ Wait → Waits w t before l r later holds after list
+    pub feed_waits : Bytes t → call_by r ≡ Ok Wait → Waits w t before l r later holds after list
     feed_waits = wait-unfinished c ready room
 
     -- between capsules, with no bytes, it is 0
-    pub feed_between : Bytes t → r.call ≡ Between → Rests w held t before l r later holds after list
+    pub feed_between : Bytes t → call_by r ≡ Ok Between → Rests w held t before l r later holds after list
     feed_between = between_rests c ready room
 
     -- a capsule is handed out with its last byte, and no byte past it is taken
-    pub feed_ends : Bytes t → (kind n : ℕ) → r.call ≡ Handed kind n → EndsIn (store_in w held) t r.taken × (store_in later holds ≡ empty)
+    pub feed_ends : Bytes t → (kind : Kind) (n : ℕ) → call_by r ≡ Ok (Handed kind n) → EndsIn (store_in w held) t (taken_by r) × (store_in later holds ≡ empty)
     feed_ends = handed-ends c ready room
 
 -- the same of the function for C, by the number that it hands over: lists, templates and store stand, and the last word of the state may hold the number
@@ -199,7 +195,7 @@ plain-feed_refused = plainly_feed_leaves
 
 -- after that refusal each call repeats it: none hands out a capsule or alters anything
 pub refusal-repeated : {w held left : List ℕ} {ps : List (List ℕ)} {handed : List Capsule} {later holds rest : List ℕ}
-    → Calls w held left ps handed later holds rest → Ready w held → (why : Refusal) → (store_in w held).stopped ≡ Stop why → Repeats w held handed later holds
+    → Calls w held left ps handed later holds rest → Ready w held → (why : Refusal) → (store_in w held).stopped ≡ Err why → Repeats w held handed later holds
 refusal-repeated = calls_repeat
 
 -- fewer bytes are kept than the memory for them holds, and none of a value that is skipped
@@ -219,17 +215,17 @@ written_is_read = read-written
 
 -- so what each of the four writers wrote is read back
 module _ {before after : List ℕ} {n : ℕ} (rest : List ℕ) where
-  pub datagram_read-back : (v : List ℕ) → DatagramWritten v before (Done n) after → ReadBack (datagram v) n after rest
+  pub datagram_read-back : (v : List ℕ) → DatagramWritten v before (Ok n) after → ReadBack (datagram v) n after rest
   datagram_read-back v = datagram-back rest v
 
   module _ (l : List ℕ) (small : Words l) where
-    pub assign_read_back : AssignWritten l before (Done n) after → ReadBack (assign (entries_of l)) n after rest
+    pub assign_read_back : AssignWritten l before (Ok n) after → ReadBack (assign (entries_of l)) n after rest
     assign_read_back = assign-back rest l small
 
-    pub request_read_back : RequestWritten l before (Done n) after → ReadBack (request (entries_of l)) n after rest
+    pub request_read_back : RequestWritten l before (Ok n) after → ReadBack (request (entries_of l)) n after rest
     request_read_back = request-back rest l small
 
-    pub routes_read_back : RoutesWritten l before (Done n) after → ReadBack (advertise (ranges_of l)) n after rest
+    pub routes_read_back : RoutesWritten l before (Ok n) after → ReadBack (advertise (ranges_of l)) n after rest
     routes_read_back = routes-back rest l small
 
 -- whatever is read, what is consumed is its encoded size
@@ -242,18 +238,18 @@ pub shortest_is_written : (s : List ℕ) (c : Capsule) (start size : ℕ) → By
 shortest_is_written = shortest-written
 
 -- after a good type 1 the received addresses are exactly the capsule's entries, after a good type 3 the received routes; all else stands
-pub addresses_replaced : {w s : List ℕ} {at : ℕ} {l : List ℕ} {r : CapsuleRead} {after list : List ℕ} → ReadsCapsule w s at l r after list
+pub addresses_replaced : {w s : List ℕ} {at : ℕ} {l : List ℕ} {r : Result CapsuleRead Refusal} {after list : List ℕ} → ReadsCapsule w s at l r after list
     → (start size : ℕ) → state_words ≤ length w → (es : List AddressEntry) → reading_in w s at ≡ capsule (assign es) start size
     → state_in after ≡ addresses_received (state_in w) es
 addresses_replaced = assign_replaces
 
-pub routes_replaced : {w s : List ℕ} {at : ℕ} {l : List ℕ} {r : CapsuleRead} {after list : List ℕ} → ReadsCapsule w s at l r after list
+pub routes_replaced : {w s : List ℕ} {at : ℕ} {l : List ℕ} {r : Result CapsuleRead Refusal} {after list : List ℕ} → ReadsCapsule w s at l r after list
     → (start size : ℕ) → state_words ≤ length w → (rs : List RouteRange) → reading_in w s at ≡ capsule (advertise rs) start size
     → state_in after ≡ routes_received (state_in w) rs
 routes_replaced = advertise_replaces
 
 -- a good type 2 hands its entries back and changes no list; a DATAGRAM and a capsule of another type change nothing
-module _ {w s : List ℕ} {at : ℕ} {l : List ℕ} {r : CapsuleRead} {after list : List ℕ} (k : ReadsCapsule w s at l r after list) (start size : ℕ) where
+module _ {w s : List ℕ} {at : ℕ} {l : List ℕ} {r : Result CapsuleRead Refusal} {after list : List ℕ} (k : ReadsCapsule w s at l r after list) (start size : ℕ) where
   pub request_hands_back : (es : List AddressEntry) → reading_in w s at ≡ capsule (request es) start size → (after ≡ w) × (entries_of list ≡ es)
   request_hands_back = request-handed k start size
 
@@ -264,48 +260,48 @@ module _ {w s : List ℕ} {at : ℕ} {l : List ℕ} {r : CapsuleRead} {after lis
   other_changes_nothing = other_leaves k start size
 
 -- a list that was written becomes the given one whole
-pub addresses-given : (w l before : List ℕ) {r : Answer} {left after : List ℕ} → state_words ≤ length w → length l ≡ address_words
-    → Assigns w l before r left after → (n : ℕ) → r ≡ Done n → state_in left ≡ addresses_given (state_in w) (entries_of l)
+pub addresses-given : (w l before : List ℕ) {r : Result ℕ Refusal} {left after : List ℕ} → state_words ≤ length w → length l ≡ address_words
+    → Assigns w l before r left after → (n : ℕ) → r ≡ Ok n → state_in left ≡ addresses_given (state_in w) (entries_of l)
 addresses-given = assign_gives
 
-pub routes-given : (w l before : List ℕ) {r : Answer} {left after : List ℕ} → state_words ≤ length w → length l ≡ route_words
-    → Advertises w l before r left after → (n : ℕ) → r ≡ Done n → state_in left ≡ routes_given (state_in w) (ranges_of l)
+pub routes-given : (w l before : List ℕ) {r : Result ℕ Refusal} {left after : List ℕ} → state_words ≤ length w → length l ≡ route_words
+    → Advertises w l before r left after → (n : ℕ) → r ≡ Ok n → state_in left ≡ routes_given (state_in w) (ranges_of l)
 routes-given = advertise_gives
 
 -- and the other end, reading it, receives the same list
-pub addresses_agreed : (w l before : List ℕ) {r : Answer} {left after : List ℕ} → state_words ≤ length w → length l ≡ address_words
-    → Assigns w l before r left after → Words l → (n : ℕ) → r ≡ Done n
-    → (x rest lent : List ℕ) {a : CapsuleRead} {state list : List ℕ} → state_words ≤ length x → sound_state (state_in x) ≡ true
+pub addresses_agreed : (w l before : List ℕ) {r : Result ℕ Refusal} {left after : List ℕ} → state_words ≤ length w → length l ≡ address_words
+    → Assigns w l before r left after → Words l → (n : ℕ) → r ≡ Ok n
+    → (x rest lent : List ℕ) {a : Result CapsuleRead Refusal} {state list : List ℕ} → state_words ≤ length x → sound_state (state_in x) ≡ true
     → ReadsCapsule x (take n after ++ rest) 0 lent a state list → state_in state ≡ addresses_received (state_in x) (entries_of l)
 addresses_agreed = assign-received
 
-pub routes_agreed : (w l before : List ℕ) {r : Answer} {left after : List ℕ} → state_words ≤ length w → length l ≡ route_words
-    → Advertises w l before r left after → Words l → (n : ℕ) → r ≡ Done n
-    → (x rest lent : List ℕ) {a : CapsuleRead} {state list : List ℕ} → state_words ≤ length x → sound_state (state_in x) ≡ true
+pub routes_agreed : (w l before : List ℕ) {r : Result ℕ Refusal} {left after : List ℕ} → state_words ≤ length w → length l ≡ route_words
+    → Advertises w l before r left after → Words l → (n : ℕ) → r ≡ Ok n
+    → (x rest lent : List ℕ) {a : Result CapsuleRead Refusal} {state list : List ℕ} → state_words ≤ length x → sound_state (state_in x) ≡ true
     → ReadsCapsule x (take n after ++ rest) 0 lent a state list → state_in state ≡ routes_received (state_in x) (ranges_of l)
 routes_agreed = advertise-received
 
 -- the same of lists that are handed in as bytes
-pub addresses-value_given : (w v before : List ℕ) {r : Answer} {left after : List ℕ} → state_words ≤ length w → AssignsValue w v before r left after
-    → (n : ℕ) → r ≡ Done n → state_in left ≡ addresses_given (state_in w) (entries_taken v)
+pub addresses-value_given : (w v before : List ℕ) {r : Result ℕ Refusal} {left after : List ℕ} → state_words ≤ length w → AssignsValue w v before r left after
+    → (n : ℕ) → r ≡ Ok n → state_in left ≡ addresses_given (state_in w) (entries_taken v)
 addresses-value_given = assign_value_gives
 
-pub routes-value_given : (w v before : List ℕ) {r : Answer} {left after : List ℕ} → state_words ≤ length w → AdvertisesValue w v before r left after
-    → (n : ℕ) → r ≡ Done n → state_in left ≡ routes_given (state_in w) (ranges_taken v)
+pub routes-value_given : (w v before : List ℕ) {r : Result ℕ Refusal} {left after : List ℕ} → state_words ≤ length w → AdvertisesValue w v before r left after
+    → (n : ℕ) → r ≡ Ok n → state_in left ≡ routes_given (state_in w) (ranges_taken v)
 routes-value_given = advertise_value_gives
 
-pub addresses_value_agreed : (w v before : List ℕ) {r : Answer} {left after : List ℕ} → state_words ≤ length w → AssignsValue w v before r left after
-    → Bytes v → (n : ℕ) → r ≡ Done n → (x rest lent : List ℕ) {a : CapsuleRead} {state list : List ℕ} → state_words ≤ length x
+pub addresses_value_agreed : (w v before : List ℕ) {r : Result ℕ Refusal} {left after : List ℕ} → state_words ≤ length w → AssignsValue w v before r left after
+    → Bytes v → (n : ℕ) → r ≡ Ok n → (x rest lent : List ℕ) {a : Result CapsuleRead Refusal} {state list : List ℕ} → state_words ≤ length x
     → sound_state (state_in x) ≡ true → ReadsCapsule x (take n after ++ rest) 0 lent a state list → state_in state ≡ addresses_received (state_in x) (entries_taken v)
 addresses_value_agreed = assign_value_received
 
-pub routes_value_agreed : (w v before : List ℕ) {r : Answer} {left after : List ℕ} → state_words ≤ length w → AdvertisesValue w v before r left after
-    → Bytes v → (n : ℕ) → r ≡ Done n → (x rest lent : List ℕ) {a : CapsuleRead} {state list : List ℕ} → state_words ≤ length x
+pub routes_value_agreed : (w v before : List ℕ) {r : Result ℕ Refusal} {left after : List ℕ} → state_words ≤ length w → AdvertisesValue w v before r left after
+    → Bytes v → (n : ℕ) → r ≡ Ok n → (x rest lent : List ℕ) {a : Result CapsuleRead Refusal} {state list : List ℕ} → state_words ≤ length x
     → sound_state (state_in x) ≡ true → ReadsCapsule x (take n after ++ rest) 0 lent a state list → state_in state ≡ routes_received (state_in x) (ranges_taken v)
 routes_value_agreed = advertise_value_received
 
 -- a good plan file replaces the templates whole
-pub plan-loaded : (file w after : List ℕ) {r : Verdict} → LoadsPlan file w r after → Bytes file → state_words ≤ length w
+pub plan-loaded : (file w after : List ℕ) {r : Result Unit Refusal} → LoadsPlan file w r after → Bytes file → state_words ≤ length w
     → (ts : List Template) (rest : List ℕ) → plan_in file ≡ found ts rest → state_in after ≡ templates_loaded (state_in w) ts
 plan-loaded = file-loaded
 
@@ -315,13 +311,13 @@ pub fresh_is_sound : sound_state (state_in (replicate state_words 0)) ≡ true
 fresh_is_sound = fresh-sound
 
 module _ {w later : List ℕ} (size : state_words ≤ length w) where
-  pub read_stays_sound : {s l list : List ℕ} {at : ℕ} {r : CapsuleRead} → ReadsCapsule w s at l r later list → StaysSound w later
+  pub read_stays_sound : {s l list : List ℕ} {at : ℕ} {r : Result CapsuleRead Refusal} → ReadsCapsule w s at l r later list → StaysSound w later
   read_stays_sound k = read-keeps_sound k size
 
-  pub load_stays_sound : (file : List ℕ) {r : Verdict} → LoadsPlan file w r later → Bytes file → StaysSound w later
+  pub load_stays_sound : (file : List ℕ) {r : Result Unit Refusal} → LoadsPlan file w r later → Bytes file → StaysSound w later
   load_stays_sound file k b = load_keeps_sound file w later k b size
 
-  module _ (l before : List ℕ) {after : List ℕ} {r : Answer} where
+  module _ (l before : List ℕ) {after : List ℕ} {r : Result ℕ Refusal} where
     pub assign_stays_sound : length l ≡ address_words → Assigns w l before r later after → StaysSound w later
     assign_stays_sound n k = assign-keeps_sound w l before size n k
 
@@ -335,17 +331,17 @@ module _ {w later : List ℕ} (size : state_words ≤ length w) where
     routes_value_stay_sound k = advertise_value_keeps_sound w l before size k
 
 -- the stream in pieces leaves lists, templates and store that keep their rules: the box never gives 9 to itself
-pub feed_stays_ready : {w held t before l : List ℕ} {r : Piece} {later holds after list : List ℕ} → Feeds w held t before l r later holds after list
+pub feed_stays_ready : {w held t before l : List ℕ} {r : Result Piece Refusal} {later holds after list : List ℕ} → Feeds w held t before l r later holds after list
     → Ready w held → Bytes t → Ready later holds
 feed_stays_ready = feed_keeps_sound
 
-pub hand_stays_ready : {w held t before : List ℕ} {r : Piece} {later holds after : List ℕ} → HandsOn w held t before r later holds after
+pub hand_stays_ready : {w held t before : List ℕ} {r : Result Piece Refusal} {later holds after : List ℕ} → HandsOn w held t before r later holds after
     → Ready w held → Bytes t → Ready later holds
 hand_stays_ready = hand_keeps_sound
 
 -- request 01: with room, from an empty store and the same lists, each call given those that the last one left and the bytes that it left, for any way of cutting
 -- the same bytes, the capsules handed out, the lists and the first refusal other than 1 are those of the whole buffer, read from place to place
-pub cut_as_whole : {w held : List ℕ} {ps : List (List ℕ)} {handed : List Capsule} {later holds rest u s : List ℕ} {read : List Capsule} {left : List ℕ} {v : Verdict}
+pub cut_as_whole : {w held : List ℕ} {ps : List (List ℕ)} {handed : List Capsule} {later holds rest u s : List ℕ} {read : List Capsule} {left : List ℕ} {v : Result Unit Refusal}
     → Calls w held [] ps handed later holds rest → Through later holds rest → ReadsAll u s 0 read left v
     → Ready w held → store_in w held ≡ empty → state_words ≤ length u → state_in u ≡ state_in w → flatten ps ≡ s → Bytes s
     → SameAs handed later holds read left v
@@ -365,11 +361,11 @@ pub cut-between : {w held a b : List ℕ} {ps : List (List ℕ)} {handed : List 
 cut-between = cut_in_two
 
 -- what is said below of `send_answer`, `send_output`, `receive_answer` and `receive_output` is said of what the two entry points answer and leave
-pub send_answers : (w p : List ℕ) {before after : List ℕ} {r : Answer} → Sends w p before r after
+pub send_answers : (w p : List ℕ) {before after : List ℕ} {r : Result ℕ Refusal} → Sends w p before r after
     → (r ≡ send_answer (state_in w) p before) × (after ≡ send_output (state_in w) p before)
 send_answers = sends_answer
 
-pub receive_answers : (w d : List ℕ) {before after : List ℕ} {r : Answer} → Receives w d before r after
+pub receive_answers : (w d : List ℕ) {before after : List ℕ} {r : Result ℕ Refusal} → Receives w d before r after
     → (r ≡ receive_answer (state_in w) d before) × (after ≡ receive_output (state_in w) d before)
 receive_answers = receives_answer
 
@@ -440,11 +436,11 @@ pub chain-kept : (p : List ℕ) → chain_of (lowered p) ≡ chain_of p
 chain-kept = lowered-chain
 
 -- one that runs past the packet is a bad form
-pub chain_past-refused : (p : List ℕ) → version_of p ≡ 6 → chain_of p ≡ BadForm → form p ≡ false
+pub chain_past-refused : (p : List ℕ) → version_of p ≡ 6 → chain_of p ≡ None → form p ≡ false
 chain_past-refused = past-bad
 
 -- ICMP behind a chain passes whatever protocol the range names
-module _ (s : State) (p : List ℕ) (six : version_of p ≡ 6) (icmp : chain_of p ≡ Protocol 58) where
+module _ (s : State) (p : List ℕ) (six : version_of p ≡ 6) (icmp : chain_of p ≡ Some 58) where
   pub icmp_behind-sent : any_of (covers (source_of p)) s.received.addresses ≡ true → any_of (holds (destination_of p)) s.received.routes ≡ true
       → sending_granted s p ≡ true
   icmp_behind-sent = chain-out s p six icmp
@@ -457,10 +453,10 @@ module _ (s : State) (p : List ℕ) (six : version_of p ≡ 6) (icmp : chain_of 
 pub first-fragment : (l : List ℕ) → 8 ≤ length l → offset_of l ≡ 0 → chain 44 l ≡ chain (get_or l 0 0) (drop 8 l)
 first-fragment = chain-first_fragment
 
-pub later-fragment : (l : List ℕ) → 8 ≤ length l → (offset_of l ≡ 0 → ⊥) → chain 44 l ≡ Protocol 44
+pub later-fragment : (l : List ℕ) → 8 ≤ length l → (offset_of l ≡ 0 → ⊥) → chain 44 l ≡ Some 44
 later-fragment = chain-later-fragment
 
-pub no_other_icmp : (p : List ℕ) → version_of p ≡ 6 → {n : ℕ} → chain_of p ≡ Protocol n → (n ≡ 58 → ⊥) → is_icmp p ≡ false
+pub no_other_icmp : (p : List ℕ) → version_of p ≡ 6 → {n : ℕ} → chain_of p ≡ Some n → (n ≡ 58 → ⊥) → is_icmp p ≡ false
 no_other_icmp = icmp_not
 
 -- request 04: after a hop the IPv4 header checksum, made again from all the words, is the update of RFC 1624, equation 3, of the one that stood there
@@ -488,11 +484,11 @@ module _ (s : State) (p out : List ℕ) (passed : Passes s p out) where
     pub full_if_none_fits : datagram_of s p out ≡ full_form (lowered p)
     full_if_none_fits = none-full s p out passed none
 
-    pub full-wire : read_number (datagram_of s p out) ≡ Whole 0 1
+    pub full-wire : read_number (datagram_of s p out) ≡ Some (number 0 1)
     full-wire = none-wire s p out passed none
 
   -- so that a datagram with 0 in front says that none fits
-  pub none_fits_if_full : read_number (datagram_of s p out) ≡ Whole 0 1 → (t : Template) → In t s.templates → fits t (lowered p) ≡ false
+  pub none_fits_if_full : read_number (datagram_of s p out) ≡ Some (number 0 1) → (t : Template) → In t s.templates → fits t (lowered p) ≡ false
   none_fits_if_full = zero_none s p out passed
 
   -- the other end holds the same templates

@@ -1,8 +1,7 @@
 -- The drivers' examples, in one table under one statement: each row is an equation of the definitions that the contracts cite, found by computing.
-use Rattle.std.specs.Prelude.{ℕ, ◌+◌, ◌≡◌, refl, List, [], ◌∷◌, ◌++◌, replicate}
+use Rattle.std.specs.Prelude.{ℕ, ◌+◌, ◌≡◌, refl, List, [], ◌∷◌, ◌++◌, replicate, Some}
 use Rattle.answer.specs.Number.{number_of}
-use Rattle.varint.specs.declared.NumberRead.TheVariants.{Whole}
-use Rattle.varint.specs.Numbers.{read_number, encode, encoded_size}
+use Rattle.varint.specs.Numbers.{read_number, encode, encoded_size, number}
 use Rattle.lists.specs.declared.AddressEntry.{AddressEntry}
 use Rattle.lists.specs.declared.RouteRange.{RouteRange}
 use Rattle.lists.specs.Rules.{sound_entry, sound_range, in_order}
@@ -91,9 +90,9 @@ sent_under ts p = datagram_of (near ts) p (replicate 1508 0)
 
 pub record DriversExamples : Type 0 where
   -- 25 and 4025 are 37; 7bbd is 15,293
-  pub number-one : read_number (0x25 ∷ []) ≡ Whole 37 1
-  pub number-longer : read_number (0x40 ∷ 0x25 ∷ []) ≡ Whole 37 2
-  pub number-two : read_number (0x7b ∷ 0xbd ∷ []) ≡ Whole 15293 2
+  pub number-one : read_number (0x25 ∷ []) ≡ Some (number 37 1)
+  pub number-longer : read_number (0x40 ∷ 0x25 ∷ []) ≡ Some (number 37 2)
+  pub number-two : read_number (0x7b ∷ 0xbd ∷ []) ≡ Some (number 15293 2)
   -- 01 07 00 04 C0 00 02 03 20 assigns 192.0.2.3/32
   pub assigns : read_capsule (0x01 ∷ 0x07 ∷ 0x00 ∷ 0x04 ∷ 0xc0 ∷ 0x00 ∷ 0x02 ∷ 0x03 ∷ 0x20 ∷ []) ≡ capsule (assign (host 3 32 ∷ [])) 2 9
   -- 01 00 empties the list; 02 00 is 6

@@ -1,11 +1,11 @@
 -- The form of a packet on the wire: the short form of the lowest template that fits, or the full form. Assumes nothing.
+use Rattle.std.proofs.Common.{Some}
 use Prim.Native.Nat.{ℕ}
 use mathlib.Core.Path.{◌≡◌, refl, sym, ap, ◌∙◌}
 use mathlib.Core.Bool.{Bool, true, false}
 use mathlib.Core.List.{List}
 use native.Mathlib.Omega.{arith}
-use Rattle.varint.specs.declared.NumberRead.TheVariants.{Whole}
-use Rattle.varint.specs.Numbers.{read_number, value_in, encode, encoded_size}
+use Rattle.varint.specs.Numbers.{read_number, value_in, encode, encoded_size, number}
 use Rattle.varint.proofs.RoundTrip.{read-encode}
 use Rattle.inet.specs.Packet.{lowered}
 use Rattle.table.specs.Templates.{Template}
@@ -23,7 +23,7 @@ use Rattle.tunnel.proofs.Agreement.{sent-short, sent-full}
 use Rattle.ends.specs.Outcomes.{SentShort}
 
 -- the Context ID of a short form
-short-wire : (t : Template) (p : List ℕ) → SoundTemplate t → read_number (short_form t p) ≡ Whole t.id (encoded_size t.id)
+short-wire : (t : Template) (p : List ℕ) → SoundTemplate t → read_number (short_form t p) ≡ Some (number t.id (encoded_size t.id))
 unfolding short_form
 short-wire t p u = read-encode t.id _ u.below
 
@@ -56,15 +56,15 @@ module _ (s : State) (p out : List ℕ) (passed : Passes s p out) where
     pub none-full : datagram_of s p out ≡ full_form (lowered p)
     none-full = datagram-sent s p out passed ∙ sent-full s p (first_fit-none s.templates (lowered p) h)
 
-    pub none-wire : read_number (datagram_of s p out) ≡ Whole 0 1
+    pub none-wire : read_number (datagram_of s p out) ≡ Some (number 0 1)
     unfolding full_form encode encoded_size
     none-wire = ap read_number none-full ∙ read-encode 0 (lowered p) (omega arith)
 
   -- a datagram that starts with 0 is in full
-  not_short : read_number (datagram_of s p out) ≡ Whole 0 1 → SentShort s p out → ⊥
+  not_short : read_number (datagram_of s p out) ≡ Some (number 0 1) → SentShort s p out → ⊥
   not_short e k = k.not_zero (ap value_in (sym k.wire ∙ e))
 
-  pub zero_none : read_number (datagram_of s p out) ≡ Whole 0 1 → (t : Template) → In t s.templates → fits t (lowered p) ≡ false
+  pub zero_none : read_number (datagram_of s p out) ≡ Some (number 0 1) → (t : Template) → In t s.templates → fits t (lowered p) ≡ false
   zero_none e t i = of (fits t (lowered p)) refl
     where
       of : (b : Bool) → fits t (lowered p) ≡ b → b ≡ false

@@ -1,4 +1,5 @@
 -- When a packet passes, in each direction; the four cases of ICMP. Assumes nothing.
+use Rattle.std.proofs.Common.{Result, ℕ}
 use Prim.Native.Nat.{ℕ, ◌-◌, ◌≤◌}
 use mathlib.Core.Path.{◌≡◌, refl, sym, ap, ◌∙◌}
 use mathlib.Core.Bool.{true, false}
@@ -6,11 +7,11 @@ use mathlib.Core.List.{List}
 use borrow.Author.Tests.{leb-true, le-leb}
 use lib.Dec.{leb}
 use lib.ListN.{length}
-use Rattle.answer.specs.declared.Answer.{Answer}
+use Rattle.answer.specs.declared.Refusal.{Refusal}
 use Rattle.answer.specs.Number.{answer_number}
 use Rattle.answer.proofs.Tests.{and_both}
 use Rattle.octets.specs.Scan.{any_of}
-use Rattle.chain.specs.declared.Carried.TheVariants.{Protocol}
+use Rattle.std.specs.Prelude.{Some}
 use Rattle.chain.specs.Chain.{chain_of}
 use Rattle.inet.proofs.ProtocolLaws.{icmp_behind}
 use Rattle.inet.specs.Packet.{version_of, form, hops_of, source_of, destination_of, protocol_of, icmp_in, is_icmp, lowered}
@@ -29,12 +30,12 @@ use Rattle.ends.specs.Outcomes.{allowed_out, allowed_in, TakesIn}
 use Rattle.ends.proofs.Agreeing.{received_in}
 
 -- answer and output are those of the contracts
-pub sends_answer : (w p : List ℕ) {before after : List ℕ} {r : Answer} → Sends w p before r after
+pub sends_answer : (w p : List ℕ) {before after : List ℕ} {r : Result ℕ Refusal} → Sends w p before r after
     → (r ≡ send_answer (state_in w) p before) × (after ≡ send_output (state_in w) p before)
 unfolding send_answer send_output
 sends_answer w p k = (k.writes.answer, k.writes.output)
 
-pub receives_answer : (w d : List ℕ) {before after : List ℕ} {r : Answer} → Receives w d before r after
+pub receives_answer : (w d : List ℕ) {before after : List ℕ} {r : Result ℕ Refusal} → Receives w d before r after
     → (r ≡ receive_answer (state_in w) d before) × (after ≡ receive_output (state_in w) d before)
 unfolding receive_answer receive_output
 receives_answer w d k = (k.writes.answer, k.writes.output)
@@ -109,7 +110,7 @@ unfolding is_icmp icmp_in
 icmp_4_not_58 p v e = rw (v, e)
 
 -- ---- ICMP behind a chain of headers, whatever protocol the range names
-module _ (s : State) (p : List ℕ) (v : version_of p ≡ 6) (e : chain_of p ≡ Protocol 58) where
+module _ (s : State) (p : List ℕ) (v : version_of p ≡ 6) (e : chain_of p ≡ Some 58) where
   pub chain-out : any_of (covers (source_of p)) s.received.addresses ≡ true → any_of (holds (destination_of p)) s.received.routes ≡ true
       → sending_granted s p ≡ true
   chain-out = icmp_out s p (icmp_behind p v e refl)

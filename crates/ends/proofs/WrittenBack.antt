@@ -1,13 +1,12 @@
--- What each writer of a capsule wrote is read back, whatever follows it: a `Done` says that the rules are kept. Assumes nothing.
+-- What each writer of a capsule wrote is read back, whatever follows it: an `Ok` says that the rules are kept. Assumes nothing.
+use Rattle.std.proofs.Common.{Result, Ok}
 use Prim.Native.Nat.{ℕ}
 use mathlib.Core.Path.{◌≡◌, sym, ap, ◌∙◌}
 use mathlib.Core.Bool.{true, false}
 use mathlib.Core.List.{List, ◌++◌}
 use lib.ListN.{length, take, drop}
 use lib.Seq.{take_at}
-use Rattle.answer.specs.declared.Answer.TheVariants.{Done}
-use Rattle.answer.specs.declared.Verdict.{Verdict}
-use Rattle.answer.specs.declared.Verdict.TheVariants.{Go}
+use Rattle.answer.specs.declared.Refusal.{Refusal}
 use Rattle.answer.specs.Verdict.{Writes}
 use Rattle.answer.proofs.Tables.{done-go, done-count}
 use Rattle.lists.specs.Words.{entries_of, ranges_of}
@@ -18,10 +17,10 @@ use Rattle.capsule_write.proofs.Accepted.{room_go}
 use Rattle.capsule_write.proofs.ReadBack.{read-datagram, read-assign, read-request, read-advertise}
 use Rattle.ends.specs.Outcomes.{ReadBack}
 
--- a message that is read back, where its verdict is `Go`
-back : (c : Capsule) (v : Verdict) {before after : List ℕ} {n : ℕ} (rest : List ℕ)
-    → (v ≡ Go → read_capsule (capsule_bytes c ++ rest) ≡ capsule c (value_start c) (length (capsule_bytes c)))
-    → Writes (with_room (length before) v) (capsule_bytes c) before (Done n) after → ReadBack c n after rest
+-- a message that is read back, where its verdict is `Ok`
+back : (c : Capsule) (v : Result Unit Refusal) {before after : List ℕ} {n : ℕ} (rest : List ℕ)
+    → (v ≡ Ok tt → read_capsule (capsule_bytes c ++ rest) ≡ capsule c (value_start c) (length (capsule_bytes c)))
+    → Writes (with_room (length before) v) (capsule_bytes c) before (Ok n) after → ReadBack c n after rest
 back c v {before} {after} {n} rest read w =
     let m = capsule_bytes c in
     let all = with_room (length before) v in
@@ -31,15 +30,15 @@ back c v {before} {after} {n} rest read w =
     ap (λ (b : List ℕ). read_capsule (b ++ rest)) front ∙ read (room_go (length before) v go).1 ∙ ap (capsule c (value_start c)) size
 
 module _ {before after : List ℕ} {n : ℕ} (rest : List ℕ) where
-  pub datagram-back : (v : List ℕ) → DatagramWritten v before (Done n) after → ReadBack (datagram v) n after rest
+  pub datagram-back : (v : List ℕ) → DatagramWritten v before (Ok n) after → ReadBack (datagram v) n after rest
   datagram-back v = back (datagram v) (value_limit v) rest (read-datagram v rest)
 
   module _ (l : List ℕ) (small : Words l) where
-    pub assign-back : AssignWritten l before (Done n) after → ReadBack (assign (entries_of l)) n after rest
+    pub assign-back : AssignWritten l before (Ok n) after → ReadBack (assign (entries_of l)) n after rest
     assign-back = back (assign (entries_of l)) (entries_verdict false l) rest (read-assign l small rest)
 
-    pub request-back : RequestWritten l before (Done n) after → ReadBack (request (entries_of l)) n after rest
+    pub request-back : RequestWritten l before (Ok n) after → ReadBack (request (entries_of l)) n after rest
     request-back = back (request (entries_of l)) (entries_verdict true l) rest (read-request l small rest)
 
-    pub routes-back : RoutesWritten l before (Done n) after → ReadBack (advertise (ranges_of l)) n after rest
+    pub routes-back : RoutesWritten l before (Ok n) after → ReadBack (advertise (ranges_of l)) n after rest
     routes-back = back (advertise (ranges_of l)) (ranges_verdict l) rest (read-advertise l small rest)

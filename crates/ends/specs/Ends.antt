@@ -1,7 +1,6 @@
 -- Lists that one end gives and the other receives.
-use Rattle.std.specs.Prelude.{ℕ, ◌≤◌, ◌≡◌, List, ◌++◌, length, take}
-use Rattle.answer.specs.declared.Answer.{Answer}
-use Rattle.answer.specs.declared.Answer.TheVariants.{Done}
+use Rattle.std.specs.Prelude.{ℕ, ◌≤◌, ◌≡◌, List, ◌++◌, length, take, Result, Ok}
+use Rattle.answer.specs.declared.Refusal.{Refusal}
 use Rattle.lists.specs.Words.{address_words, route_words}
 use Rattle.capsule.specs.declared.CapsuleRead.{CapsuleRead}
 use Rattle.capsule_write.specs.Verdicts.{Words}
@@ -10,7 +9,7 @@ use Rattle.exchange.specs.Reading.{ReadsCapsule}
 use Rattle.exchange.specs.Writing.{Assigns, Advertises}
 
 -- a list of so many words was written by the giver as a capsule, whatever stood in its output, and the taker read the capsule, whatever followed it
-pub record Crossed (Gives : List ℕ → List ℕ → List ℕ → Answer → List ℕ → List ℕ → Type 0) (size : ℕ) (giver taker giver' taker' : List ℕ) : Type 0 where
+pub record Crossed (Gives : List ℕ → List ℕ → List ℕ → Result ℕ Refusal → List ℕ → List ℕ → Type 0) (size : ℕ) (giver taker giver' taker' : List ℕ) : Type 0 where
   pub list : List ℕ
   pub before : List ℕ
   pub after : List ℕ
@@ -18,12 +17,12 @@ pub record Crossed (Gives : List ℕ → List ℕ → List ℕ → Answer → Li
   pub asked : List ℕ
   pub asked' : List ℕ
   pub count : ℕ
-  pub read : CapsuleRead
+  pub read : Result CapsuleRead Refusal
   pub given : state_words ≤ length giver
   pub taken : state_words ≤ length taker
   pub sized : length list ≡ size
   pub words : Words list
-  pub writes : Gives giver list before (Done count) giver' after
+  pub writes : Gives giver list before (Ok count) giver' after
   pub reads : ReadsCapsule taker (take count after ++ rest) 0 asked read taker' asked'
 
 abbrev pub AddressesCrossed : List ℕ → List ℕ → List ℕ → List ℕ → Type 0

@@ -1,10 +1,8 @@
 -- What the demands say of an answer, of a capsule that was read, and of a packet that was sent or taken in.
-use Rattle.std.specs.Prelude.{ℕ, ◌+◌, ◌≤◌, ◌≡◌, ◌⊎◌, Bool, true, ◌&&◌, List, [], ◌∷◌, ◌++◌, leb, length, take, drop}
-use Rattle.answer.specs.declared.Answer.{Answer}
-use Rattle.answer.specs.declared.Answer.TheVariants.{Done}
+use Rattle.std.specs.Prelude.{ℕ, ◌+◌, ◌≤◌, ◌≡◌, ◌⊎◌, Bool, true, ◌&&◌, List, [], ◌∷◌, ◌++◌, leb, length, take, drop, Result, Ok, Some}
+use Rattle.answer.specs.declared.Refusal.{Refusal}
 use Rattle.answer.specs.Number.{answer_number, answer_length}
-use Rattle.varint.specs.declared.NumberRead.TheVariants.{Whole}
-use Rattle.varint.specs.Numbers.{read_number, encoded_size}
+use Rattle.varint.specs.Numbers.{read_number, encoded_size, number}
 use Rattle.inet.specs.Packet.{form, hops_of, lowered}
 use Rattle.capsule.specs.Capsules.{Capsule, capsule, read_capsule}
 use Rattle.capsule.specs.Sound.{value_start}
@@ -18,7 +16,7 @@ use Rattle.tunnel.specs.Answers.{receive_answer, receive_output, datagram_of}
 use Rattle.tunnel_c.specs.declared.pieces.PlainPiece.{PlainPiece}
 
 -- a refusal says a length of 0, and leaves the output as it was
-abbrev pub Leaves : Answer → List ℕ → List ℕ → Type 0
+abbrev pub Leaves : Result ℕ Refusal → List ℕ → List ℕ → Type 0
 Leaves r before after = (answer_number r ≡ 0 → ⊥) → (answer_length r ≡ 0) × (after ≡ before)
 
 -- a refusal of the stream in pieces, other than 1: it hands out and takes nothing, and alters no more than the word that remembers it
@@ -40,8 +38,8 @@ pub record Consumed (s : List ℕ) (size : ℕ) : Type 0 where
   pub count : ℕ
   pub kind-size : ℕ
   pub count-size : ℕ
-  pub type : read_number s ≡ Whole kind kind-size
-  pub length_read : read_number (drop kind-size s) ≡ Whole count count-size
+  pub type : read_number s ≡ Some (number kind kind-size)
+  pub length_read : read_number (drop kind-size s) ≡ Some (number count count-size)
   pub total : size ≡ kind-size + count-size + count
 
 -- where the state w is sound, the later one is
@@ -63,12 +61,12 @@ pub record SentShort (s : State) (p out : List ℕ) : Type 0 where
   pub fitting : fits template (lowered p) ≡ true
   pub lowest : (t : Template) → In t s.templates → fits t (lowered p) ≡ true → template.id ≤ t.id
   pub bytes : datagram_of s p out ≡ short_form template (lowered p)
-  pub wire : read_number (datagram_of s p out) ≡ Whole template.id (encoded_size template.id)
+  pub wire : read_number (datagram_of s p out) ≡ Some (number template.id (encoded_size template.id))
   pub not_zero : template.id ≡ 0 → ⊥
 
 -- the datagram d is taken in as the packet q: its length is answered, and the output holds it and then what stood there
 pub record TakesIn (s : State) (d into q : List ℕ) : Type 0 where
-  pub answer : receive_answer s d into ≡ Done (length q)
+  pub answer : receive_answer s d into ≡ Ok (length q)
   pub output : receive_output s d into ≡ q ++ drop (length q) into
 
 -- an IPv4 packet with the header checksum bb, both bytes the same

@@ -1,4 +1,3 @@
-pub mod StoreSteps
 pub mod ReadCases
 pub mod WriteCases
 pub mod ReadLaws

@@ -1,5 +1,6 @@
 -- Laws of reading a capsule against the state: a good list replaces the received one whole and nothing else, all else leaves the state as it was,
 -- and a sound state stays sound, since what is read is sound. Assumes nothing.
+use Rattle.std.proofs.Common.{Result, Err}
 use Prim.Native.Nat.{ℕ, ◌≤◌}
 use mathlib.Core.Bool.{Bool, true, false}
 use mathlib.Core.Path.{◌≡◌, refl, sym, ap, ◌∙◌}
@@ -8,7 +9,6 @@ use native.Mathlib.Omega.{arith}
 use lib.ListN.{length, drop}
 use Rattle.answer.specs.declared.Refusal.{Refusal}
 use Rattle.answer.specs.declared.Refusal.TheVariants.{BrokenState}
-use Rattle.answer.specs.declared.Verdict.TheVariants.{Stop}
 use Rattle.answer.specs.Choice.{pick}
 use Rattle.lists.specs.declared.AddressEntry.{AddressEntry}
 use Rattle.lists.specs.declared.RouteRange.{RouteRange}
@@ -16,7 +16,7 @@ use Rattle.lists.specs.Words.{entries_of, pack_entries, pack_ranges}
 use Rattle.lists.proofs.Packing.{length_pack_entries, length_pack_ranges}
 use Rattle.capsule.specs.declared.CapsuleRead.{CapsuleRead}
 use Rattle.capsule.specs.Capsules.{Capsule, datagram, assign, request, advertise, unknown, Reading, refused, capsule, read_capsule}
-use Rattle.capsule.specs.Results.{refused_at, result_at, read_at}
+use Rattle.capsule.specs.Results.{next_after, result_at, read_at}
 use Rattle.capsule.specs.Sound.{Sound, sound-datagram, sound-assign, sound-request, sound-advertise, sound-unknown}
 use Rattle.capsule.proofs.ReadLaws.{read-sound, addresses-sound, routes-sound, entries_packed, ranges_packed}
 use Rattle.state.specs.State.{state_words, state_in, sound_state, addresses_received, routes_received}
@@ -45,7 +45,7 @@ module _ (w s : List ℕ) (at : ℕ) where
       of true q = (refl, q)
       of false q = let z : ◌≡◌ {A = ℕ} 0 1 = cc in absurd (omega arith)
 
-pub refused-only : (at : ℕ) (q : Reading) (why : Refusal) → (result_at at q).verdict ≡ Stop why → q ≡ refused why
+pub refused-only : (at : ℕ) (q : Reading) (why : Refusal) → result_at at q ≡ Err why → q ≡ refused why
 refused-only at (refused r) why e = let z : r ≡ why = cc in ap refused z
 refused-only at (capsule c start size) why e = let z : ◌≡◌ {A = ℕ} 0 1 = cc in absurd (omega arith)
 
@@ -69,9 +69,9 @@ module _ (w : List ℕ) (h : state_words ≤ length w) where
       ap sound_state (ranges-received rs (sound-advertise r)) ∙ sound-routes_received (state_in w) g rs (routes-sound rs r)
   taken-sound g c sound-unknown = g
 
-module _ {w s : List ℕ} {at : ℕ} {l : List ℕ} {r : CapsuleRead} {after list : List ℕ} (t : ReadsCapsule w s at l r after list) where
+module _ {w s : List ℕ} {at : ℕ} {l : List ℕ} {r : Result CapsuleRead Refusal} {after list : List ℕ} (t : ReadsCapsule w s at l r after list) where
   -- a broken state is refused, and else the answer is that of the capsule
-  pub read-broken-state : sound_state (state_in w) ≡ false → r ≡ refused_at at BrokenState
+  pub read-broken-state : sound_state (state_in w) ≡ false → r ≡ Err BrokenState
   read-broken-state f = t.answer ∙ ap (result_at at) (reading-broken w s at f)
 
   pub read-capsule : sound_state (state_in w) ≡ true → r ≡ read_at s at
@@ -79,12 +79,12 @@ module _ {w s : List ℕ} {at : ℕ} {l : List ℕ} {r : CapsuleRead} {after lis
   read-capsule g = t.answer ∙ ap (result_at at) (reading-sound w s at g)
 
   -- a refusal leaves all
-  pub read_refusal_leaves : (why : Refusal) → r.verdict ≡ Stop why → (after ≡ w) × (list ≡ l) × (r.next ≡ at)
+  pub read_refusal_leaves : (why : Refusal) → r ≡ Err why → (after ≡ w) × (list ≡ l) × (next_after at r ≡ at)
   read_refusal_leaves why e =
-      let q = refused-only at (reading_in w s at) why (sym (ap (λ (x : CapsuleRead). x.verdict) t.answer) ∙ e) in (
+      let q = refused-only at (reading_in w s at) why (sym t.answer ∙ e) in (
         t.state ∙ ap (received w) q,
         t.requested ∙ ap (requested l) q,
-        ap (λ (x : CapsuleRead). x.next) (t.answer ∙ ap (result_at at) q),
+        ap (next_after at) e,
       )
 
   module _ (start size : ℕ) where

@@ -1,5 +1,6 @@
 -- Laws of writing a capsule against the state: the list written becomes the given one and nothing else changes, a sound state stays sound, and the
 -- other end reads the same list. Assumes nothing.
+use Rattle.std.proofs.Common.{Result, Ok, Err, ℕ}
 use Prim.Native.Nat.{ℕ, ◌≤◌}
 use mathlib.Core.Bool.{true, false, not}
 use mathlib.Core.Path.{◌≡◌, refl, sym, ap, ◌∙◌}
@@ -7,11 +8,8 @@ use mathlib.Core.List.{List, ◌++◌}
 use native.Mathlib.Omega.{arith}
 use lib.ListN.{length, take, drop}
 use lib.Seq.{take_at}
-use Rattle.answer.specs.declared.Answer.{Answer}
-use Rattle.answer.specs.declared.Answer.TheVariants.{Done}
+use Rattle.answer.specs.declared.Refusal.{Refusal}
 use Rattle.answer.specs.declared.Refusal.TheVariants.{BrokenState}
-use Rattle.answer.specs.declared.Verdict.{Verdict}
-use Rattle.answer.specs.declared.Verdict.TheVariants.{Go, Stop}
 use Rattle.answer.specs.Verdict.{kept}
 use Rattle.answer.proofs.Tables.{done-go, done-count, go-rest}
 use Rattle.octets.specs.Big.{Bytes}
@@ -33,25 +31,25 @@ use Rattle.exchange.specs.Reading.{reading_in, ReadsCapsule}
 use Rattle.exchange.specs.Writing.{with_state, ready, entries_taken, ranges_taken, Gives}
 use Rattle.exchange.specs.Writing.{Assigns, Advertises, AssignsValue, AdvertisesValue}
 use Rattle.exchange.proofs.ReadLaws.{reading-sound, assign_replaces, advertise_replaces}
-use Rattle.exchange.proofs.WriteCases.{parsed-all, taken-entries, taken-ranges}
+use Rattle.exchange.specs.Taken.{parsed-all, taken-entries, taken-ranges}
 
 -- ---- any list
--- a `Go` of all is a `Go` of the list
-pub ready-go : (n : ℕ) (w : List ℕ) (v : Verdict) → ready n w v ≡ Go → v ≡ Go
+-- an `Ok` of all is an `Ok` of the list
+pub ready-go : (n : ℕ) (w : List ℕ) (v : Result Unit Refusal) → ready n w v ≡ Ok tt → v ≡ Ok tt
 unfolding with_state
 ready-go n w v e = go-rest (not (sound_state (state_in w))) BrokenState v (room_go n (with_state w v) e).1
 
-module _ {v : Verdict} {m new w before : List ℕ} {r : Answer} {left after : List ℕ} (g : Gives v m new w before r left after) where
+module _ {v : Result Unit Refusal} {m new w before : List ℕ} {r : Result ℕ Refusal} {left after : List ℕ} (g : Gives v m new w before r left after) where
   -- a sound state stays sound where what is stored is
-  keeps-sound : sound_state (state_in w) ≡ true → (v ≡ Go → sound_state (state_in new) ≡ true) → sound_state (state_in left) ≡ true
+  keeps-sound : sound_state (state_in w) ≡ true → (v ≡ Ok tt → sound_state (state_in new) ≡ true) → sound_state (state_in left) ≡ true
   keeps-sound h f = ap (λ (x : List ℕ). sound_state (state_in x)) g.state ∙ of v refl
     where
-      of : (u : Verdict) → v ≡ u → sound_state (state_in (kept u new w)) ≡ true
-      of Go e = f e
-      of (Stop q) e = h
+      of : (u : Result Unit Refusal) → v ≡ u → sound_state (state_in (kept u new w)) ≡ true
+      of (Ok _) e = f e
+      of (Err q) e = h
 
-  module _ (n : ℕ) (e : r ≡ Done n) where
-    went : v ≡ Go
+  module _ (n : ℕ) (e : r ≡ Ok n) where
+    went : v ≡ Ok tt
     went = done-go v (length m) n (sym g.writes.answer ∙ e)
 
     counted : length m ≡ n
@@ -64,8 +62,8 @@ module _ {v : Verdict} {m new w before : List ℕ} {r : Answer} {left after : Li
     written-bytes = ap (take n) (rw went at g.writes.output) ∙ take_at m (drop (length m) before) n counted
 
 -- the other end, in a sound state x, reads the capsule that was written, whatever follows it
-other-reads : (c : Capsule) {v : Verdict} {new w before : List ℕ} {r : Answer} {left after : List ℕ} (g : Gives v (capsule_bytes c) new w before r left after)
-    (n : ℕ) → r ≡ Done n → Sound c → in_words c ≡ true → (c ≡ unknown → ⊥) → (x rest : List ℕ) → sound_state (state_in x) ≡ true
+other-reads : (c : Capsule) {v : Result Unit Refusal} {new w before : List ℕ} {r : Result ℕ Refusal} {left after : List ℕ} (g : Gives v (capsule_bytes c) new w before r left after)
+    (n : ℕ) → r ≡ Ok n → Sound c → in_words c ≡ true → (c ≡ unknown → ⊥) → (x rest : List ℕ) → sound_state (state_in x) ≡ true
     → reading_in x (take n after ++ rest) 0 ≡ capsule c (value_start c) n
 other-reads c {after = after} g n e s i k x rest h =
     reading-sound x (take n after ++ rest) 0 h
@@ -74,10 +72,10 @@ other-reads c {after = after} g n e s i k x rest h =
     ∙ ap (capsule c (value_start c)) (counted g n e)
 
 -- ---- a list in words
-module _ (w l before : List ℕ) {r : Answer} {left after : List ℕ} (h : state_words ≤ length w) where
+module _ (w l before : List ℕ) {r : Result ℕ Refusal} {left after : List ℕ} (h : state_words ≤ length w) where
   module _ (q : length l ≡ address_words) (g : Assigns w l before r left after) where
     -- the given addresses are replaced whole, and nothing else
-    pub assign_gives : (n : ℕ) → r ≡ Done n → state_in left ≡ addresses_given (state_in w) (entries_of l)
+    pub assign_gives : (n : ℕ) → r ≡ Ok n → state_in left ≡ addresses_given (state_in w) (entries_of l)
     assign_gives n e = ap state_in (given-state g n e) ∙ given_addresses_put w l h q
 
     pub assign-keeps_sound : sound_state (state_in w) ≡ true → sound_state (state_in left) ≡ true
@@ -88,7 +86,7 @@ module _ (w l before : List ℕ) {r : Answer} {left after : List ℕ} (h : state
         ∙ sound-addresses_given (state_in w) s (entries_of l) (entries-go false l (ready-go (length before) w (entries_verdict false l) e)).sound)
 
     -- the other end receives the list that this end gives
-    pub assign-received : Words l → (n : ℕ) → r ≡ Done n → (x rest lent : List ℕ) {a : CapsuleRead} {state list : List ℕ} → state_words ≤ length x
+    pub assign-received : Words l → (n : ℕ) → r ≡ Ok n → (x rest lent : List ℕ) {a : Result CapsuleRead Refusal} {state list : List ℕ} → state_words ≤ length x
         → sound_state (state_in x) ≡ true → ReadsCapsule x (take n after ++ rest) 0 lent a state list
         → state_in state ≡ addresses_received (state_in x) (entries_of l)
     assign-received small n e x rest lent k s t =
@@ -97,7 +95,7 @@ module _ (w l before : List ℕ) {r : Answer} {left after : List ℕ} (h : state
         (other-reads (assign (entries_of l)) g n e (assign-sound l go) (entries-words l small) (λ y. omega (arith, ap kind_of y)) x rest s)
 
   module _ (q : length l ≡ route_words) (g : Advertises w l before r left after) where
-    pub advertise_gives : (n : ℕ) → r ≡ Done n → state_in left ≡ routes_given (state_in w) (ranges_of l)
+    pub advertise_gives : (n : ℕ) → r ≡ Ok n → state_in left ≡ routes_given (state_in w) (ranges_of l)
     advertise_gives n e = ap state_in (given-state g n e) ∙ given_routes_put w l h q
 
     pub advertise-keeps_sound : sound_state (state_in w) ≡ true → sound_state (state_in left) ≡ true
@@ -107,7 +105,7 @@ module _ (w l before : List ℕ) {r : Answer} {left after : List ℕ} (h : state
         ap sound_state (given_routes_put w l h q)
         ∙ sound-routes_given (state_in w) s (ranges_of l) (ranges-go l (ready-go (length before) w (ranges_verdict l) e)).sound)
 
-    pub advertise-received : Words l → (n : ℕ) → r ≡ Done n → (x rest lent : List ℕ) {a : CapsuleRead} {state list : List ℕ} → state_words ≤ length x
+    pub advertise-received : Words l → (n : ℕ) → r ≡ Ok n → (x rest lent : List ℕ) {a : Result CapsuleRead Refusal} {state list : List ℕ} → state_words ≤ length x
         → sound_state (state_in x) ≡ true → ReadsCapsule x (take n after ++ rest) 0 lent a state list
         → state_in state ≡ routes_received (state_in x) (ranges_of l)
     advertise-received small n e x rest lent k s t =
@@ -116,9 +114,9 @@ module _ (w l before : List ℕ) {r : Answer} {left after : List ℕ} (h : state
         (other-reads (advertise (ranges_of l)) g n e (advertise-sound l go) (ranges-words l small) (λ y. omega (arith, ap kind_of y)) x rest s)
 
 -- ---- a list in bytes
-module _ (w v before : List ℕ) {r : Answer} {left after : List ℕ} (h : state_words ≤ length w) where
+module _ (w v before : List ℕ) {r : Result ℕ Refusal} {left after : List ℕ} (h : state_words ≤ length w) where
   module _ (g : AssignsValue w v before r left after) where
-    pub assign_value_gives : (n : ℕ) → r ≡ Done n → state_in left ≡ addresses_given (state_in w) (entries_taken v)
+    pub assign_value_gives : (n : ℕ) → r ≡ Ok n → state_in left ≡ addresses_given (state_in w) (entries_taken v)
     assign_value_gives n e =
         let go = ready-go (length before) w (parsed_verdict (entries_in false v)) (went g n e) in
         ap state_in (given-state g n e)
@@ -134,7 +132,7 @@ module _ (w v before : List ℕ) {r : Answer} {left after : List ℕ} (h : state
         (given_addresses_put w (pack_entries (entries_taken v)) h (length_pack_entries (entries_taken v)) ∙ ap (addresses_given (state_in w)) (taken-entries false v go))
         ∙ sound-addresses_given (state_in w) s (entries_taken v) (addresses-sound false (entries_taken v) (entries-ruled v false (entries_taken v) (parsed-all (entries_in false v) go))))
 
-    pub assign_value_received : Bytes v → (n : ℕ) → r ≡ Done n → (x rest lent : List ℕ) {a : CapsuleRead} {state list : List ℕ} → state_words ≤ length x
+    pub assign_value_received : Bytes v → (n : ℕ) → r ≡ Ok n → (x rest lent : List ℕ) {a : Result CapsuleRead Refusal} {state list : List ℕ} → state_words ≤ length x
         → sound_state (state_in x) ≡ true → ReadsCapsule x (take n after ++ rest) 0 lent a state list
         → state_in state ≡ addresses_received (state_in x) (entries_taken v)
     assign_value_received b n e x rest lent k s t =
@@ -144,7 +142,7 @@ module _ (w v before : List ℕ) {r : Answer} {left after : List ℕ} (h : state
         (other-reads (assign es) g n e (sound-assign (entries-ruled v false es p)) (entries_in_words v false es p b) (λ y. omega (arith, ap kind_of y)) x rest s)
 
   module _ (g : AdvertisesValue w v before r left after) where
-    pub advertise_value_gives : (n : ℕ) → r ≡ Done n → state_in left ≡ routes_given (state_in w) (ranges_taken v)
+    pub advertise_value_gives : (n : ℕ) → r ≡ Ok n → state_in left ≡ routes_given (state_in w) (ranges_taken v)
     advertise_value_gives n e =
         let go = ready-go (length before) w (parsed_verdict (ranges_in v)) (went g n e) in
         ap state_in (given-state g n e)
@@ -160,7 +158,7 @@ module _ (w v before : List ℕ) {r : Answer} {left after : List ℕ} (h : state
         (given_routes_put w (pack_ranges (ranges_taken v)) h (length_pack_ranges (ranges_taken v)) ∙ ap (routes_given (state_in w)) (taken-ranges v go))
         ∙ sound-routes_given (state_in w) s (ranges_taken v) (routes-sound (ranges_taken v) (ranges-ruled v (ranges_taken v) (parsed-all (ranges_in v) go))))
 
-    pub advertise_value_received : Bytes v → (n : ℕ) → r ≡ Done n → (x rest lent : List ℕ) {a : CapsuleRead} {state list : List ℕ} → state_words ≤ length x
+    pub advertise_value_received : Bytes v → (n : ℕ) → r ≡ Ok n → (x rest lent : List ℕ) {a : Result CapsuleRead Refusal} {state list : List ℕ} → state_words ≤ length x
         → sound_state (state_in x) ≡ true → ReadsCapsule x (take n after ++ rest) 0 lent a state list
         → state_in state ≡ routes_received (state_in x) (ranges_taken v)
     advertise_value_received b n e x rest lent k s t =

@@ -1,15 +1,17 @@
 -- A capsule read against the state of a tunnel: a good list replaces the received one whole, and a request is handed back.
-use Rattle.std.specs.Prelude.{ℕ, ◌+◌, ◌≡◌, true, false, List, eqb, drop}
+use Rattle.std.specs.Prelude.{ℕ, ◌+◌, ◌≡◌, true, false, List, drop, Result}
+use Rattle.answer.specs.declared.Refusal.{Refusal}
 use Rattle.answer.specs.declared.Refusal.TheVariants.{BrokenState}
-use Rattle.answer.specs.declared.Verdict.{Verdict}
 use Rattle.answer.specs.Choice.{pick}
 use Rattle.answer.specs.Verdict.{kept}
 use Rattle.octets.specs.Parts.{with_part}
 use Rattle.lists.specs.Words.{address_words, route_words, pack_entries, pack_ranges}
 use Rattle.capsule.specs.declared.CapsuleRead.{CapsuleRead}
+use Rattle.capsule.specs.declared.Kind.{Kind}
+use Rattle.capsule.specs.declared.Kind.TheVariants.{Datagram, AddressAssign, AddressRequest, RouteAdvertisement, Other}
 use Rattle.capsule.specs.Elements.{parsed_verdict, elements_of}
 use Rattle.capsule.specs.Capsules.{Capsule, datagram, assign, request, advertise, unknown, entries_in, ranges_in, Reading, refused, capsule, read_capsule}
-use Rattle.capsule.specs.Results.{judged_at, result_at, value_verdict}
+use Rattle.capsule.specs.Results.{result_at, value_verdict}
 use Rattle.state.specs.State.{received_at, state_in, sound_state}
 
 -- a received list stored in the words of a state
@@ -50,44 +52,50 @@ unfoldable pub reading_in : List ℕ → List ℕ → ℕ → Reading
 reading_in w s at = pick (sound_state (state_in w)) (read_capsule (drop at s)) (refused BrokenState)
 
 -- what reading answers, and what it leaves in the state w and in the list l
-pub record ReadsCapsule (w s : List ℕ) (at : ℕ) (l : List ℕ) (r : CapsuleRead) (after list : List ℕ) : Type 0 where
+pub record ReadsCapsule (w s : List ℕ) (at : ℕ) (l : List ℕ) (r : Result CapsuleRead Refusal) (after list : List ℕ) : Type 0 where
   pub answer : r ≡ result_at at (reading_in w s at)
   pub state : after ≡ received w (reading_in w s at)
   pub requested : list ≡ requested l (reading_in w s at)
 
 -- the same where the state is not looked at
-pub record TakesCapsule (w s : List ℕ) (at : ℕ) (l : List ℕ) (r : CapsuleRead) (after list : List ℕ) : Type 0 where
+pub record TakesCapsule (w s : List ℕ) (at : ℕ) (l : List ℕ) (r : Result CapsuleRead Refusal) (after list : List ℕ) : Type 0 where
   pub answer : r ≡ result_at at (read_capsule (drop at s))
   pub state : after ≡ received w (read_capsule (drop at s))
   pub requested : list ≡ requested l (read_capsule (drop at s))
 
--- ---- the value v of a capsule that its frame f found at a place
+-- ---- the value v of a capsule
 
--- the list of a value decides: it is stored, and the capsule was read
-pub record TakesList (u : Verdict) (new before : List ℕ) (at : ℕ) (f r : CapsuleRead) (after : List ℕ) : Type 0 where
-  pub answer : r ≡ judged_at at u f
+-- its list decides: where it goes it is stored
+pub record TakesList (u : Result Unit Refusal) (new before : List ℕ) (r : Result Unit Refusal) (after : List ℕ) : Type 0 where
+  pub answer : r ≡ u
   pub stored : after ≡ kept u new before
 
-abbrev pub TakesAssign : List ℕ → List ℕ → ℕ → CapsuleRead → CapsuleRead → List ℕ → Type 0
-TakesAssign w v at f r after =
-    TakesList (parsed_verdict (entries_in false v)) (receive_addresses w (pack_entries (elements_of (entries_in false v)))) w at f r after
+abbrev pub TakesAssign : List ℕ → List ℕ → Result Unit Refusal → List ℕ → Type 0
+TakesAssign w v r after =
+    TakesList (parsed_verdict (entries_in false v)) (receive_addresses w (pack_entries (elements_of (entries_in false v)))) w r after
 
-abbrev pub TakesRoutes : List ℕ → List ℕ → ℕ → CapsuleRead → CapsuleRead → List ℕ → Type 0
-TakesRoutes w v at f r after = TakesList (parsed_verdict (ranges_in v)) (receive_routes w (pack_ranges (elements_of (ranges_in v)))) w at f r after
+abbrev pub TakesRoutes : List ℕ → List ℕ → Result Unit Refusal → List ℕ → Type 0
+TakesRoutes w v r after = TakesList (parsed_verdict (ranges_in v)) (receive_routes w (pack_ranges (elements_of (ranges_in v)))) w r after
 
-abbrev pub TakesRequest : List ℕ → List ℕ → ℕ → CapsuleRead → CapsuleRead → List ℕ → Type 0
-TakesRequest l v at f r after = TakesList (parsed_verdict (entries_in true v)) (pack_entries (elements_of (entries_in true v))) l at f r after
+abbrev pub TakesRequest : List ℕ → List ℕ → Result Unit Refusal → List ℕ → Type 0
+TakesRequest l v r after = TakesList (parsed_verdict (entries_in true v)) (pack_entries (elements_of (entries_in true v))) l r after
 
 -- by its kind
-unfoldable pub received_value : ℕ → List ℕ → List ℕ → List ℕ
-received_value kind v w =
-    pick (eqb kind 1) (kept (parsed_verdict (entries_in false v)) (receive_addresses w (pack_entries (elements_of (entries_in false v)))) w)
-    (pick (eqb kind 3) (kept (parsed_verdict (ranges_in v)) (receive_routes w (pack_ranges (elements_of (ranges_in v)))) w) w)
+unfoldable pub received_value : Kind → List ℕ → List ℕ → List ℕ
+received_value Datagram v w = w
+received_value AddressAssign v w = kept (parsed_verdict (entries_in false v)) (receive_addresses w (pack_entries (elements_of (entries_in false v)))) w
+received_value AddressRequest v w = w
+received_value RouteAdvertisement v w = kept (parsed_verdict (ranges_in v)) (receive_routes w (pack_ranges (elements_of (ranges_in v)))) w
+received_value Other v w = w
 
-unfoldable pub requested_value : ℕ → List ℕ → List ℕ → List ℕ
-requested_value kind v l = pick (eqb kind 2) (kept (parsed_verdict (entries_in true v)) (pack_entries (elements_of (entries_in true v))) l) l
+unfoldable pub requested_value : Kind → List ℕ → List ℕ → List ℕ
+requested_value Datagram v l = l
+requested_value AddressAssign v l = l
+requested_value AddressRequest v l = kept (parsed_verdict (entries_in true v)) (pack_entries (elements_of (entries_in true v))) l
+requested_value RouteAdvertisement v l = l
+requested_value Other v l = l
 
-pub record TakesValue (w v : List ℕ) (f : CapsuleRead) (at : ℕ) (l : List ℕ) (r : CapsuleRead) (after list : List ℕ) : Type 0 where
-  pub answer : r ≡ judged_at at (value_verdict f.kind v) f
-  pub state : after ≡ received_value f.kind v w
-  pub requested : list ≡ requested_value f.kind v l
+pub record TakesValue (w : List ℕ) (kind : Kind) (v l : List ℕ) (r : Result Unit Refusal) (after list : List ℕ) : Type 0 where
+  pub answer : r ≡ value_verdict kind v
+  pub state : after ≡ received_value kind v w
+  pub requested : list ≡ requested_value kind v l

@@ -1,8 +1,7 @@
 -- A capsule written against the state of a tunnel: the list written becomes the given one.
-use Rattle.std.specs.Prelude.{ℕ, ◌+◌, ◌≡◌, true, false, not, List, length}
-use Rattle.answer.specs.declared.Answer.{Answer}
+use Rattle.std.specs.Prelude.{ℕ, ◌+◌, ◌≡◌, true, false, not, List, length, Result}
+use Rattle.answer.specs.declared.Refusal.{Refusal}
 use Rattle.answer.specs.declared.Refusal.TheVariants.{BrokenState}
-use Rattle.answer.specs.declared.Verdict.{Verdict}
 use Rattle.answer.specs.Verdict.{stop_if, kept, Writes}
 use Rattle.octets.specs.Parts.{with_part}
 use Rattle.lists.specs.declared.AddressEntry.{AddressEntry}
@@ -21,34 +20,34 @@ abbrev pub give_routes : List ℕ → List ℕ → List ℕ
 give_routes w l = with_part w (given_at + address_words) (given_at + address_words + route_words) l
 
 -- a state w that breaks its rules is refused
-unfoldable pub with_state : List ℕ → Verdict → Verdict
+unfoldable pub with_state : List ℕ → Result Unit Refusal → Result Unit Refusal
 with_state w v = stop_if (not (sound_state (state_in w))) BrokenState v
 
 -- too small an output of n bytes, a broken state, and then as the list
-abbrev pub ready : ℕ → List ℕ → Verdict → Verdict
+abbrev pub ready : ℕ → List ℕ → Result Unit Refusal → Result Unit Refusal
 ready n w v = with_room n (with_state w v)
 
 -- what writing a message answers, and what it leaves in the output and in the state w, which is `new` on success
-pub record Gives (v : Verdict) (message new w before : List ℕ) (r : Answer) (left after : List ℕ) : Type 0 where
+pub record Gives (v : Result Unit Refusal) (message new w before : List ℕ) (r : Result ℕ Refusal) (left after : List ℕ) : Type 0 where
   pub writes : Writes v message before r after
   pub state : left ≡ kept v new w
 
 -- ---- a list l in words
 
-abbrev pub Assigns : List ℕ → List ℕ → List ℕ → Answer → List ℕ → List ℕ → Type 0
+abbrev pub Assigns : List ℕ → List ℕ → List ℕ → Result ℕ Refusal → List ℕ → List ℕ → Type 0
 Assigns w l before r left after =
     Gives (ready (length before) w (entries_verdict false l)) (capsule_bytes (assign (entries_of l))) (give_addresses w l) w before r left after
 
-abbrev pub Advertises : List ℕ → List ℕ → List ℕ → Answer → List ℕ → List ℕ → Type 0
+abbrev pub Advertises : List ℕ → List ℕ → List ℕ → Result ℕ Refusal → List ℕ → List ℕ → Type 0
 Advertises w l before r left after =
     Gives (ready (length before) w (ranges_verdict l)) (capsule_bytes (advertise (ranges_of l))) (give_routes w l) w before r left after
 
 -- the same where there is room and the state is sound: the list alone decides
-abbrev pub GivesAddresses : List ℕ → List ℕ → List ℕ → Answer → List ℕ → List ℕ → Type 0
+abbrev pub GivesAddresses : List ℕ → List ℕ → List ℕ → Result ℕ Refusal → List ℕ → List ℕ → Type 0
 GivesAddresses w l before r left after =
     Gives (entries_verdict false l) (capsule_bytes (assign (entries_of l))) (give_addresses w l) w before r left after
 
-abbrev pub GivesRoutes : List ℕ → List ℕ → List ℕ → Answer → List ℕ → List ℕ → Type 0
+abbrev pub GivesRoutes : List ℕ → List ℕ → List ℕ → Result ℕ Refusal → List ℕ → List ℕ → Type 0
 GivesRoutes w l before r left after = Gives (ranges_verdict l) (capsule_bytes (advertise (ranges_of l))) (give_routes w l) w before r left after
 
 -- ---- bytes v as in the value of the capsule: what was read is always written
@@ -60,17 +59,17 @@ entries_taken v = elements_of (entries_in false v)
 abbrev pub ranges_taken : List ℕ → List RouteRange
 ranges_taken v = elements_of (ranges_in v)
 
-abbrev pub AssignsValue : List ℕ → List ℕ → List ℕ → Answer → List ℕ → List ℕ → Type 0
+abbrev pub AssignsValue : List ℕ → List ℕ → List ℕ → Result ℕ Refusal → List ℕ → List ℕ → Type 0
 AssignsValue w v before r left after =
     Gives (ready (length before) w (parsed_verdict (entries_in false v))) (capsule_bytes (assign (entries_taken v)))
     (give_addresses w (pack_entries (entries_taken v))) w before r left after
 
-abbrev pub AdvertisesValue : List ℕ → List ℕ → List ℕ → Answer → List ℕ → List ℕ → Type 0
+abbrev pub AdvertisesValue : List ℕ → List ℕ → List ℕ → Result ℕ Refusal → List ℕ → List ℕ → Type 0
 AdvertisesValue w v before r left after =
     Gives (ready (length before) w (parsed_verdict (ranges_in v))) (capsule_bytes (advertise (ranges_taken v)))
     (give_routes w (pack_ranges (ranges_taken v))) w before r left after
 
 -- a request changes no list
-abbrev pub RequestsValue : List ℕ → List ℕ → Answer → List ℕ → Type 0
+abbrev pub RequestsValue : List ℕ → List ℕ → Result ℕ Refusal → List ℕ → Type 0
 RequestsValue v before r after =
     Writes (with_room (length before) (parsed_verdict (entries_in true v))) (capsule_bytes (request (elements_of (entries_in true v)))) before r after

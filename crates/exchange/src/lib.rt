@@ -3,6 +3,7 @@
 // state, and a refusal leaves it as it was. Refused: too small an output (16), a state that breaks its own rules (9), then as the capsule.
 #![tactic(auto)]
 
+mod carried;
 mod reading;
 mod writing;
 

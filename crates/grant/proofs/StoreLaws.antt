@@ -8,22 +8,26 @@ use lib.ListN.{length, take, drop, length-append}
 use borrow.Rule.Slice.PartMut.{put_mid}
 use Rattle.octets.specs.Parts.{part, with_part}
 use Rattle.octets.proofs.Parts.{part-rest, front-part, put-part, put_next}
-use Rattle.lists.specs.declared.AddressList.{AddressList}
-use Rattle.lists.specs.declared.RouteList.{RouteList}
+use Rattle.lists.specs.declared.WordList.{WordList}
 use Rattle.lists.specs.Words.{address_words, route_words, no_addresses, no_routes, entries_of, ranges_of}
 use Rattle.state.specs.State.{received_at, given_at, table_at, state_words, state_in, addresses_received, routes_received, addresses_given, routes_given}
 use Rattle.state.proofs.StoreLaws.{received_addresses_put, received_routes_put, given_addresses_put, given_routes_put}
 use Rattle.grant.specs.Lists.{no_grants, grants_in, put_grants, Stored}
 use Rattle.grant.specs.Lists.{with_received_addresses, with_received_routes, with_given_addresses, with_given_routes}
 
-pub empty-parts : {a : AddressList} {b : RouteList} → a ≡ no_addresses → b ≡ no_routes
+pub empty-parts : {a : WordList address_words} {b : WordList route_words} → a ≡ no_addresses → b ≡ no_routes
     → record { received_addresses = a; received_routes = b; given_addresses = a; given_routes = b } ≡ no_grants
 empty-parts e f = rw (e, f)
 
-pub loaded : (w : List ℕ) {a c : AddressList} {b d : RouteList}
-    → a ≡ record { words = part w received_at address_words } → b ≡ record { words = part w (received_at + address_words) route_words }
-    → c ≡ record { words = part w given_at address_words } → d ≡ record { words = part w (given_at + address_words) route_words }
-    → record { received_addresses = a; received_routes = b; given_addresses = c; given_routes = d } ≡ grants_in w
+pub loaded : (w : List ℕ) {a b c d : List ℕ}
+    → a ≡ part w received_at address_words → b ≡ part w (received_at + address_words) route_words
+    → c ≡ part w given_at address_words → d ≡ part w (given_at + address_words) route_words
+    → record {
+      received_addresses = record { words = a };
+      received_routes = record { words = b };
+      given_addresses = record { words = c };
+      given_routes = record { words = d };
+    } ≡ grants_in w
 unfolding grants_in
 loaded w e f g h = rw (e, f, g, h)
 
@@ -93,7 +97,7 @@ module _ (w : List ℕ) where
       ∙ sym (append_assoc (take given_at w) (part w given_at address_words) l)
       ∙ ap (λ (f : List ℕ). f ++ l) (front-part w given_at address_words)
 
-  module _ (l : AddressList) where
+  module _ (l : WordList address_words) where
     pub put_received_addresses : put_grants w (with_received_addresses (grants_in w) l) ≡ with_part w received_at (received_at + address_words) l.words
     unfolding put_grants grants_in
     put_received_addresses = ap (λ (x : List ℕ). l.words ++ x) from_received_routes
@@ -104,7 +108,7 @@ module _ (w : List ℕ) where
         ap (λ (x : List ℕ). part w received_at address_words ++ (part w routesAt route_words ++ (l.words ++ x))) from_given_routes
         ∙ up_to_given (l.words ++ drop givenRoutesAt w)
 
-  module _ (l : RouteList) where
+  module _ (l : WordList route_words) where
     pub put_received_routes : put_grants w (with_received_routes (grants_in w) l)
         ≡ with_part w (received_at + address_words) (received_at + address_words + route_words) l.words
     unfolding put_grants grants_in
@@ -119,14 +123,14 @@ module _ (w : List ℕ) where
 -- ---- what it means
 
 module _ (w : List ℕ) (h : state_words ≤ length w) where
-  module _ (l : AddressList) (s : length l.words ≡ address_words) where
+  module _ (l : WordList address_words) (s : length l.words ≡ address_words) where
     pub state_received_addresses : state_in (put_grants w (with_received_addresses (grants_in w) l)) ≡ addresses_received (state_in w) (entries_of l.words)
     state_received_addresses = ap state_in (put_received_addresses w l) ∙ received_addresses_put w l.words h s
 
     pub state_given_addresses : state_in (put_grants w (with_given_addresses (grants_in w) l)) ≡ addresses_given (state_in w) (entries_of l.words)
     state_given_addresses = ap state_in (put_given_addresses w l) ∙ given_addresses_put w l.words h s
 
-  module _ (l : RouteList) (s : length l.words ≡ route_words) where
+  module _ (l : WordList route_words) (s : length l.words ≡ route_words) where
     pub state_received_routes : state_in (put_grants w (with_received_routes (grants_in w) l)) ≡ routes_received (state_in w) (ranges_of l.words)
     state_received_routes = ap state_in (put_received_routes w l) ∙ received_routes_put w l.words h s
 

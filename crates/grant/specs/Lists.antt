@@ -1,8 +1,7 @@
 -- The grants in force by value: the lists received from the other end and those given to it, and where they stand in a state.
 use Rattle.std.specs.Prelude.{ℕ, ◌+◌, ◌≡◌, List, ◌++◌, length, drop}
 use Rattle.octets.specs.Parts.{part}
-use Rattle.lists.specs.declared.AddressList.{AddressList}
-use Rattle.lists.specs.declared.RouteList.{RouteList}
+use Rattle.lists.specs.declared.WordList.{WordList}
 use Rattle.lists.specs.Words.{address_words, route_words, no_addresses, no_routes}
 use Rattle.state.specs.State.{received_at, given_at, table_at}
 use Rattle.grant.specs.declared.Grants.{Grants}
@@ -18,7 +17,7 @@ no_grants =
     }
 
 -- exactly one list replaced
-abbrev pub with_received_addresses : Grants → AddressList → Grants
+abbrev pub with_received_addresses : Grants → WordList address_words → Grants
 with_received_addresses g l =
     record {
       received_addresses = l;
@@ -27,7 +26,7 @@ with_received_addresses g l =
       given_routes = g.given_routes;
     }
 
-abbrev pub with_received_routes : Grants → RouteList → Grants
+abbrev pub with_received_routes : Grants → WordList route_words → Grants
 with_received_routes g l =
     record {
       received_addresses = g.received_addresses;
@@ -36,7 +35,7 @@ with_received_routes g l =
       given_routes = g.given_routes;
     }
 
-abbrev pub with_given_addresses : Grants → AddressList → Grants
+abbrev pub with_given_addresses : Grants → WordList address_words → Grants
 with_given_addresses g l =
     record {
       received_addresses = g.received_addresses;
@@ -45,7 +44,7 @@ with_given_addresses g l =
       given_routes = g.given_routes;
     }
 
-abbrev pub with_given_routes : Grants → RouteList → Grants
+abbrev pub with_given_routes : Grants → WordList route_words → Grants
 with_given_routes g l =
     record {
       received_addresses = g.received_addresses;

@@ -112,11 +112,6 @@ facts_field_is field v p h k = simp (eq-eqb _ _ h, eq-eqb _ _ k)
 pub field_is_fails : (field v : ℕ) (p : List ℕ) → ((get_or p field 0 ≡ v / 256) × (get_or p (field + 1) 0 ≡ v % 256) → ⊥) → field_is field v p ≡ false
 field_is_fails field v p n = only_false (field_is field v p) (λ e. n (field_is_facts field v p e))
 
--- where the high byte is right, the low byte decides
-pub field_is-low : (field v : ℕ) (p : List ℕ) → get_or p field 0 ≡ v / 256 → field_is field v p ≡ eqb (get_or p (field + 1) 0) (v % 256)
-unfolding field_is
-field_is-low field v p h = simp (eq-eqb _ _ h)
-
 -- a value that stands in the field, set back into it
 pub field_is-back : (field v x : ℕ) (p : List ℕ) → field_is field v p ≡ true → set_field field v (set_field field x p) ≡ p
 field_is-back field v x p e = let f = field_is_facts field v p e in put-put p field x v ∙ put_same p field v f.0 f.1

@@ -164,16 +164,16 @@ module _ (front tail : List ℕ) {n : ℕ} (e : length front + length tail ≡ n
         payload = omega (arith, joined_at 4 (omega arith) (omega arith), joined_at 5 (omega arith) (omega arith));
       }
 
+-- no test both passes and fails
+pub clash : {A : Type 0} (b : Bool) → b ≡ true → b ≡ false → A
+clash b t f = let z : ◌≡◌ {A = ℕ} 0 1 = cc in absurd (omega arith)
+
 -- what the tests of a front tell
 module _ {front : List ℕ} {n : ℕ} (h : min max_header n ≤ length front) where
-  pub tells_4 : Front4 front n → Tells form4 front n true
-  tells_4 f = record { told = λ tail e. sym (facts_form4 (front ++ tail) (joined_4 front tail e h f)) }
+  pub tells_4 : (b : Bool) → (b ≡ true → Front4 front n) → (b ≡ false → Front4 front n → ⊥) → Tells form4 front n b
+  tells_4 true f k = record { told = λ tail e. sym (facts_form4 (front ++ tail) (joined_4 front tail e h (f refl))) }
+  tells_4 false f k = record { told = λ tail e. sym (form4_fails (front ++ tail) (λ g. k refl (front_4 front tail e h g))) }
 
-  pub tells_not_4 : (Front4 front n → ⊥) → Tells form4 front n false
-  tells_not_4 k = record { told = λ tail e. sym (form4_fails (front ++ tail) (λ f. k (front_4 front tail e h f))) }
-
-  pub tells_6 : Front6 front n → Tells fixed6 front n true
-  tells_6 f = record { told = λ tail e. sym (facts_fixed6 (front ++ tail) (joined_6 front tail e h f)) }
-
-  pub tells_not_6 : (Front6 front n → ⊥) → Tells fixed6 front n false
-  tells_not_6 k = record { told = λ tail e. sym (fixed6_fails (front ++ tail) (λ f. k (front_6 front tail e h f))) }
+  pub tells_6 : (b : Bool) → (b ≡ true → Front6 front n) → (b ≡ false → Front6 front n → ⊥) → Tells fixed6 front n b
+  tells_6 true f k = record { told = λ tail e. sym (facts_fixed6 (front ++ tail) (joined_6 front tail e h (f refl))) }
+  tells_6 false f k = record { told = λ tail e. sym (fixed6_fails (front ++ tail) (λ g. k refl (front_6 front tail e h g))) }

@@ -7,7 +7,7 @@ use native.Mathlib.Omega.{arith}
 use lib.ListN.{length, get_or, drop}
 use lib.Dec.{eqb}
 use borrow.Author.Tests.{eq-eqb, ne_eqb}
-use Rattle.chain.specs.declared.Carried.TheVariants.{Protocol, BadForm}
+use Rattle.std.specs.Prelude.{Some, None}
 use Rattle.chain.specs.Chain.{plain, class_of, size_of, offset_of, later, chain, chain_of, protocol_in, whole}
 use Rattle.inet.specs.Packet.{version_of, form, protocol_of, protocol_byte, is_icmp}
 use Rattle.inet.proofs.FormFacts.{form_fails, is-form6}
@@ -26,13 +26,13 @@ module _ (p : List ℕ) (v : version_of p ≡ 6) where
   protocol-plain e = protocol_of_6 p v ∙ ap protocol_in (chain-plain (get_or p 6 0) (drop 40 p) e) ∙ sym (protocol_byte_6 p v)
 
   -- a chain that runs past the packet
-  pub past-bad : chain_of p ≡ BadForm → form p ≡ false
+  pub past-bad : chain_of p ≡ None → form p ≡ false
   past-bad e = form_fails p (λ f. clash (sym (is-form6 p f (λ four. omega arith)).chain ∙ ap whole e))
     where
       clash : true ≡ false → ⊥
       clash t = let z : ◌≡◌ {A = ℕ} 0 1 = cc in omega arith
 
-  module _ {n : ℕ} (e : chain_of p ≡ Protocol n) where
+  module _ {n : ℕ} (e : chain_of p ≡ Some n) where
     icmp_is : eqb n 58 ≡ is_icmp p
     icmp_is = ap (λ (m : ℕ). eqb m 58) (sym (protocol_of_6 p v ∙ ap protocol_in e)) ∙ is_icmp_6 p v
 
@@ -49,6 +49,6 @@ module _ (l : List ℕ) (h : 8 ≤ length l) where
   unfolding class_of size_of later
   chain-first_fragment e = chain_next 44 l (λ z. omega arith) h (ap (λ (o : ℕ). not (eqb o 0)) e)
 
-  pub chain-later-fragment : (offset_of l ≡ 0 → ⊥) → chain 44 l ≡ Protocol 44
+  pub chain-later-fragment : (offset_of l ≡ 0 → ⊥) → chain 44 l ≡ Some 44
   unfolding class_of size_of later
   chain-later-fragment x = chain-later 44 l (λ z. omega arith) h (ap not (ne_eqb (offset_of l) 0 x))

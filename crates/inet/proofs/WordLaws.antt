@@ -39,6 +39,12 @@ fold_less a w own k h l z e =
     let y : w + (65535 - own + k) ≡ w - own + k + 65535 * 1 = omega arith in
     ap fold x ∙ fold_cong a w (65535 - own + k) e ∙ ap fold y ∙ fold-past (w - own + k) 1 (omega arith)
 
+-- no bytes have no words
+pub words_none : (s : List ℕ) → length s ≡ 0 → words s ≡ 0
+unfolding words
+words_none [] h = refl
+words_none (a ∷ s) h = absurd (omega arith)
+
 -- the words from i on are the word at i and the words from i + 2 on
 pub words_step : (s : List ℕ) (i : ℕ) → i + 1 < length s → words (drop i s) ≡ get_or s i 0 * 256 + get_or s (i + 1) 0 + words (drop (i + 2) s)
 unfolding words
@@ -115,7 +121,7 @@ fold_multiple : (s k : ℕ) → k ≤ s → fold (s + 65535 * k) ≡ fold s
 fold_multiple zero k h = let e : 0 + 65535 * k ≡ 0 = omega arith in ap fold e
 fold_multiple (suc s) k h = fold-past (suc s) k (omega arith)
 
-words_append_even : (s l : List ℕ) → length s % 2 ≡ 0 → words (s ++ l) ≡ words s + words l
+pub words_append_even : (s l : List ℕ) → length s % 2 ≡ 0 → words (s ++ l) ≡ words s + words l
 unfolding words
 words_append_even [] l h = omega arith
 words_append_even (a ∷ []) l h = absurd (omega arith)

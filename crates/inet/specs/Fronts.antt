@@ -1,9 +1,7 @@
 -- A packet in two parts, its front and its tail: what the inner functions ask of both, and what they tell.
-use Rattle.std.specs.Prelude.{ℕ, ◌+◌, ◌≤◌, ◌<◌, ◌^◌, min, Bool, List, ◌++◌, ◌≡◌, length}
+use Rattle.std.specs.Prelude.{ℕ, ◌+◌, ◌≤◌, ◌<◌, ◌^◌, min, Bool, Option, Some, None, List, ◌++◌, ◌≡◌, length}
 use Rattle.inet.specs.Sum.{words, fold}
 use Rattle.answer.specs.Choice.{pick}
-use Rattle.chain.specs.declared.Carried.{Carried}
-use Rattle.chain.specs.declared.Carried.TheVariants.{Protocol, BadForm}
 use Rattle.inet.specs.Packet.{version_of, form, protocol_of}
 
 -- the most bytes of a header: 15 words of 4
@@ -19,9 +17,9 @@ pub record Parted (front tail : List ℕ) : Type 0 where
   pub short : length front + length tail < 2 ^ 64
   pub header : min max_header (length front + length tail) ≤ length front
 
--- the protocol of a packet of good form
-unfoldable pub carried_by : List ℕ → Carried
-carried_by p = pick (form p) (Protocol (protocol_of p)) BadForm
+-- the protocol of a packet of good form; bytes of bad form carry none
+unfoldable pub carried_by : List ℕ → Option ℕ
+carried_by p = pick (form p) (Some (protocol_of p)) None
 
 -- a packet, or the front of one, with both addresses
 pub record Addressed (p : List ℕ) : Type 0 where

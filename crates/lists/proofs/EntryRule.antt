@@ -3,7 +3,7 @@ use Prim.Native.Nat.{◌-◌, ◌%◌, ◌^◌, ◌≤◌, ◌<◌}
 use mathlib.Core.Bool.{Bool, true, false, ◌&&◌}
 use mathlib.Core.Path.{◌≡◌}
 use native.Mathlib.Omega.{arith}
-use borrow.Author.Tests.{lt-ltb, le-ltb, le-leb, lt-leb, eq-eqb, ne_eqb, ltb-true, leb-true, eqb-true}
+use borrow.Author.Tests.{lt-ltb, le-ltb, le-leb, eq-eqb, ne_eqb, ltb-true, leb-true, eqb-true}
 use lib.Dec.{leb, ltb, eqb}
 use Rattle.answer.specs.Choice.{pick}
 use Rattle.answer.proofs.Tests.{and_both, only_false}
@@ -61,7 +61,7 @@ module _ (e : AddressEntry) where
   entry_fails n = only_false (sound_entry e) (λ h. n (entry_facts h))
 
   -- the code's tests
-  pub id-over : limit ≤ id_of e → false ≡ sound_entry e
+  pub id-over : limit ≤ id_of e → ltb (id_of e) limit ≡ sound_entry e
   unfolding sound_entry
   id-over h = simp (le-ltb (id_of e) limit h)
 
@@ -71,24 +71,14 @@ module _ (e : AddressEntry) where
       unfolding sound_entry
       ipv4_address_over h = simp (q, h, lt-ltb (id_of e) limit i)
 
-      module _ (h : ltb (address_of e) (2 ^ 32) ≡ true) where
-        pub ipv4_prefix_over : 32 < e.prefix → false ≡ sound_entry e
-        unfolding sound_entry
-        ipv4_prefix_over g = simp (q, h, lt-ltb (id_of e) limit i, lt-leb e.prefix 32 g)
+      pub ipv4_prefix : ltb (address_of e) (2 ^ 32) ≡ true → (leb e.prefix 32 && low_zero (32 - e.prefix) (address_of e)) ≡ sound_entry e
+      unfolding sound_entry
+      ipv4_prefix h = simp (q, h, lt-ltb (id_of e) limit i)
 
-        pub ipv4_low_bits : e.prefix ≤ 32 → low_zero (32 - e.prefix) (address_of e) ≡ sound_entry e
-        unfolding sound_entry
-        ipv4_low_bits g = simp (q, h, lt-ltb (id_of e) limit i, le-leb e.prefix 32 g)
+    pub ipv6_prefix : e.version ≡ 6 → (leb e.prefix 128 && low_zero (128 - e.prefix) (address_of e)) ≡ sound_entry e
+    unfolding sound_entry
+    ipv6_prefix q = simp (q, lt-ltb (id_of e) limit i)
 
     pub other-version : (e.version ≡ 4 → ⊥) → (e.version ≡ 6 → ⊥) → false ≡ sound_entry e
     unfolding sound_entry
     other-version f g = simp (ne_eqb e.version 4 f, ne_eqb e.version 6 g, lt-ltb (id_of e) limit i)
-
-    module _ (q : e.version ≡ 6) where
-      pub ipv6_prefix_over : 128 < e.prefix → false ≡ sound_entry e
-      unfolding sound_entry
-      ipv6_prefix_over g = simp (q, lt-ltb (id_of e) limit i, lt-leb e.prefix 128 g)
-
-      pub ipv6_low_bits : e.prefix ≤ 128 → low_zero (128 - e.prefix) (address_of e) ≡ sound_entry e
-      unfolding sound_entry
-      ipv6_low_bits g = simp (q, lt-ltb (id_of e) limit i, le-leb e.prefix 128 g)

@@ -4,6 +4,7 @@ use mathlib.Core.Bool.{Bool, true, false}
 use mathlib.Core.Path.{◌≡◌, refl, sym, ap, ◌∙◌}
 use mathlib.Core.List.{List}
 use mathlib.Core.Logic.{⊎_elim}
+use Rattle.std.specs.Prelude.{Option, Some, None}
 use native.Mathlib.Nat.{sub-zero}
 use native.Mathlib.Omega.{arith}
 use borrow.Author.Tests.{le-leb, lt-leb, leb-true, lt-ltb}
@@ -121,18 +122,22 @@ module _ {w : List ℕ} {n : ℕ} {a : RouteRange} {i : ℕ} (s : Judging w n a 
       → sound_past w n i ≡ sound_routes (ranges_of w)
   past h q e g = rw q at (judge-next s h q e g).rest
 
-  pub judge_run-broken : {r : RouteRange} {last : ℕ} {sound : Bool} → i < n → r ≡ range_at w i → sound_range r ≡ true
-      → in_order a r ≡ true → Ran w n i last sound → sound ≡ false → false ≡ sound_routes (ranges_of w)
+  pub judge_run-broken : {r : RouteRange} {u : Option ℕ} → i < n → r ≡ range_at w i → sound_range r ≡ true
+      → in_order a r ≡ true → Ran w n i u → u ≡ None → false ≡ sound_routes (ranges_of w)
   judge_run-broken h q e g u t = sym (u.broken t) ∙ past h q e g
 
-  pub judge_run : {r b : RouteRange} {last : ℕ} {sound : Bool} → i < n → r ≡ range_at w i → sound_range r ≡ true
-      → in_order a r ≡ true → Ran w n i last sound → sound ≡ true → b ≡ range_at w last → Judging w n b (last + 1)
+  pub judge_run : {r b : RouteRange} {u : Option ℕ} {last : ℕ} → i < n → r ≡ range_at w i → sound_range r ≡ true
+      → in_order a r ≡ true → Ran w n i u → u ≡ Some last → b ≡ range_at w last → Judging w n b (last + 1)
   judge_run {last = last} h q e g u t l =
-      let k = u.kept t in
+      let k = u.kept last t in
       record { within = omega (arith, k.0); rest = rw l (sym k.2 ∙ past h q e g) }
 
-pub run_within : {w : List ℕ} {n j last : ℕ} {sound : Bool} → Ran w n j last sound → sound ≡ true → (last < n) × (j ≤ last)
-run_within u t = let k = u.kept t in (k.0, k.1)
+pub no_some : (u : Option ℕ) → ((k : ℕ) → u ≡ Some k → ⊥) → u ≡ None
+no_some None f = refl
+no_some (Some k) f = absurd (f k refl)
+
+pub run_within : {w : List ℕ} {n j last : ℕ} {u : Option ℕ} → Ran w n j u → u ≡ Some last → (last < n) × (j ≤ last)
+run_within {last = last} u t = let k = u.kept last t in (k.0, k.1)
 
 pub said-sound : {r x : RouteRange} → r ≡ x → sound_range r ≡ true → (sound_range x ≡ true) × (x.version ≡ r.version)
 said-sound q e = (ap sound_range (sym q) ∙ e, ap (λ (y : RouteRange). y.version) (sym q))

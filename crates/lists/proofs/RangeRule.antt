@@ -57,9 +57,9 @@ module _ (r : RouteRange) where
     unfolding sound_range
     ipv6_in_order q p = simp (h, q, lt-ltb r.protocol 256 p)
 
-    pub other-version : (r.version ≡ 4 → ⊥) → (r.version ≡ 6 → ⊥) → false ≡ sound_range r
+    pub not_ipv4 : (r.version ≡ 4 → ⊥) → r.protocol < 256 → eqb r.version 6 ≡ sound_range r
     unfolding sound_range
-    other-version f g = simp (h, ne_eqb r.version 4 f, ne_eqb r.version 6 g)
+    not_ipv4 f p = simp (h, ne_eqb r.version 4 f, lt-ltb r.protocol 256 p, and-true, or-false)
 
     pub ipv4_end_below : r.version ≡ 4 → r.protocol < 256 → ltb (end_of r) (2 ^ 32) ≡ sound_range r
     unfolding sound_range

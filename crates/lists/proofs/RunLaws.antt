@@ -1,11 +1,13 @@
 -- Runs of ranges of one tag: what is left to test where version and protocol are those of the range before. Assumes nothing.
-use Prim.Native.Nat.{ℕ, ◌+◌, ◌*◌, ◌/◌, ◌%◌, ◌^◌, ◌≤◌, ◌<◌}
-use mathlib.Core.Bool.{Bool, true, false, ◌&&◌}
+use Prim.Native.Nat.{ℕ, ◌+◌, ◌-◌, ◌*◌, ◌/◌, ◌%◌, ◌^◌, ◌≤◌, ◌<◌}
+use mathlib.Core.Bool.{true, false, ◌&&◌, true≢false}
 use mathlib.Core.Path.{◌≡◌, refl, sym, ap, ◌∙◌}
 use mathlib.Core.List.{List}
 use mathlib.Core.Logic.{◌⊎◌, inl, inr, ⊎_elim}
+use Rattle.std.specs.Prelude.{Option, Some, None, cond}
+use Rattle.std.proofs.lemmas.Option.{none-some, same_Some}
 use native.Mathlib.Omega.{arith}
-use borrow.Author.Tests.{lt-ltb, le-ltb, ltb-true, ltb-false}
+use borrow.Author.Tests.{lt-ltb, le-ltb, ltb-true}
 use lib.Bits.{bit_or, or_add_and, and_le_l, and_le_r}
 use lib.Dec.{leb, ltb}
 use Rattle.answer.proofs.Tests.{and_both, only_false, order}
@@ -29,15 +31,6 @@ bits_of_three a b c =
     let v = and_le_l (bit_or a b) c in
     let t = and_le_r (bit_or a b) c in
     (omega (arith, x, y, z, u, v, t), omega (arith, x, y, z, u, v, t), omega (arith, x, y, z, u, v, t), omega (arith, x, y, z, u, v, t))
-
-false_not_true : false ≡ true → ⊥
-false_not_true e = let z : ◌≡◌ {A = ℕ} 0 1 = cc in absurd (omega arith)
-
-pub no-high : (high end : ℕ) → high ≡ 0 → ltb end (2 ^ 32) ≡ ltb (high * 2 ^ 32 + end) (2 ^ 32)
-no-high high end e = let z : high * 2 ^ 32 + end ≡ end = omega arith in rw z
-
-pub some-high : (high end : ℕ) → (high ≡ 0 → ⊥) → false ≡ ltb (high * 2 ^ 32 + end) (2 ^ 32)
-some-high high end e = sym (le-ltb (high * 2 ^ 32 + end) (2 ^ 32) (omega (arith, e)))
 
 -- ---- neighbours of one version and protocol
 
@@ -124,9 +117,11 @@ protocol-small : (w : List ℕ) (i : ℕ) → (range_at w i).protocol < 256
 unfolding range_at
 protocol-small w i = omega arith
 
--- where something is broken, any place will do
-pub run_broken : {w : List ℕ} {n j last : ℕ} → sound_past w n j ≡ false → Ran w n j last false
-run_broken e = record { kept = λ t. absurd (false_not_true t); broken = λ t. e }
+pub run_broken : {w : List ℕ} {n j : ℕ} → sound_past w n j ≡ false → Ran w n j None
+run_broken e = record { kept = λ k t. absurd (none-some k t); broken = λ t. e }
+
+pub run_kept : {w : List ℕ} {n j last : ℕ} → last < n → j ≤ last → sound_past w n j ≡ sound_past w n last → Ran w n j (Some last)
+run_kept {last = last} h l e = record { kept = λ k t. rw (← same_Some last k t) (h, l, e); broken = λ t. absurd (none-some last (sym t)) }
 
 -- ---- a run of IPv4
 
@@ -148,14 +143,15 @@ module _ {w : List ℕ} {n j : ℕ} where
       record { since = omega arith; within = h; tag = refl; last = refl; state = inl (omega arith, omega arith, refl) }
 
   module _ {end high i : ℕ} (r : Running4 w n j end high i) where
-    pub run4_done : {last : ℕ} {sound : Bool} → last ≡ i → sound ≡ ltb (high * 2 ^ 32 + end) (2 ^ 32) → Ran w n j last sound
-    run4_done l e =
-        record {
-          kept = λ t. ⊎_elim (λ f. (omega (arith, r.within), omega (arith, r.since), rw l f.2))
-              (λ f. absurd (let x = ltb-true (high * 2 ^ 32 + end) (2 ^ 32) (sym e ∙ t) in omega (arith, f.0, x))) r.state;
-          broken = λ t. ⊎_elim (λ f. absurd (let x = ltb-false (high * 2 ^ 32 + end) (2 ^ 32) (sym e ∙ t) in omega (arith, f.0, x)))
-              (λ f. f.1) r.state;
-        }
+    pub run4_done : {a : Option ℕ} → a ≡ cond (ltb (high * 2 ^ 32 + end) (2 ^ 32)) (Some i) None → Ran w n j a
+    run4_done {a} e =
+        ⊎_elim
+        (λ f. let q : a ≡ Some i = rw (lt-ltb (high * 2 ^ 32 + end) (2 ^ 32) f.0) at e in rw q (run_kept r.within r.since f.2))
+        (λ f. let q : a ≡ None = rw (le-ltb (high * 2 ^ 32 + end) (2 ^ 32) f.0) at e in rw q (run_broken f.1)) r.state
+
+    -- at the end of the list
+    pub run4_last : n ≤ i + 1 → Running4 w n j end high (n - 1)
+    run4_last h = let q : n - 1 ≡ i = omega (arith, r.within) in rw q r
 
     module _ (four : (range_at w j).version ≡ 4) (h : i + 1 < n) (t : word 5 w (i + 1) 1 ≡ word 5 w j 1) where
       same : word 5 w i 1 ≡ word 5 w (i + 1) 1
@@ -247,9 +243,12 @@ module _ {w : List ℕ} {n j : ℕ} where
   run6_start h = record { since = omega arith; within = h; tag = refl; high = refl; low = refl; rest = refl }
 
   module _ {hi lo i : ℕ} (r : Running6 w n j hi lo i) where
-    pub run6_done : Ran w n j i true
-    run6_done =
-        record { kept = λ t. (r.within, r.since, r.rest); broken = λ t. absurd (false_not_true (sym t)) }
+    pub run6_done : Ran w n j (Some i)
+    run6_done = run_kept r.within r.since r.rest
+
+    -- at the end of the list
+    pub run6_last : n ≤ i + 1 → Running6 w n j hi lo (n - 1)
+    run6_last h = let q : n - 1 ≡ i = omega (arith, r.within) in rw q r
 
     module _ (h : i + 1 < n) (t : word 5 w (i + 1) 1 ≡ word 5 w j 1) where
       same6 : word 5 w i 1 ≡ word 5 w (i + 1) 1
@@ -261,13 +260,13 @@ module _ {w : List ℕ} {n j : ℕ} where
           rw (r.high, r.low) (follows6_order (range_at w i) (range_at w (i + 1)) (same_version w i (i + 1) same6) (same-protocol w i (i + 1) same6))
 
       pub run6_unordered : ltb (wide hi lo) (wide (word 5 w (i + 1) 2) (word 5 w (i + 1) 3)) ≡ false → sound_past w n j ≡ false
-      run6_unordered e = r.rest ∙ past-bad w n i h (λ s o. false_not_true (sym e ∙ order6 ∙ o))
+      run6_unordered e = r.rest ∙ past-bad w n i h (λ s o. true≢false (sym (sym e ∙ order6 ∙ o)))
 
       pub run6_reversed : leb (wide (word 5 w (i + 1) 2) (word 5 w (i + 1) 3)) (wide (word 5 w (i + 1) 4) (word 5 w (i + 1) 5)) ≡ false
           → sound_past w n j ≡ false
       unfolding range_at
       run6_reversed e =
-          r.rest ∙ past-bad w n i h (λ s o. false_not_true (Range.reversed (range_at w (i + 1)) e ∙ s))
+          r.rest ∙ past-bad w n i h (λ s o. true≢false (sym (Range.reversed (range_at w (i + 1)) e ∙ s)))
 
       pub run6_next : (range_at w j).version ≡ 6 → ltb (wide hi lo) (wide (word 5 w (i + 1) 2) (word 5 w (i + 1) 3)) ≡ true
           → leb (wide (word 5 w (i + 1) 2) (word 5 w (i + 1) 3)) (wide (word 5 w (i + 1) 4) (word 5 w (i + 1) 5)) ≡ true

@@ -1,5 +1,5 @@
 -- Runs: neighbouring ranges of one version and protocol, as the code judges them.
-use Rattle.std.specs.Prelude.{ℕ, ◌+◌, ◌-◌, ◌≤◌, ◌<◌, Bool, true, false, ◌≡◌, List}
+use Rattle.std.specs.Prelude.{ℕ, ◌+◌, ◌-◌, ◌≤◌, ◌<◌, Bool, false, ◌≡◌, List, Option, Some, None}
 use Rattle.octets.specs.Scan.{from}
 use Rattle.lists.specs.Rules.{sound_after}
 use Rattle.lists.specs.Words.{range_at}
@@ -9,6 +9,6 @@ abbrev pub sound_past : List ℕ → ℕ → ℕ → Bool
 sound_past w n j = sound_after (range_at w j) (from (range_at w) (j + 1) (n - (j + 1)))
 
 -- a run behind range j, found sound to the range at last: what is left to say is what the ranges behind last say; found broken: so is the list
-pub record Ran (w : List ℕ) (n j last : ℕ) (sound : Bool) : Type 0 where
-  pub kept : sound ≡ true → (last < n) × (j ≤ last) × (sound_past w n j ≡ sound_past w n last)
-  pub broken : sound ≡ false → sound_past w n j ≡ false
+pub record Ran (w : List ℕ) (n j : ℕ) (r : Option ℕ) : Type 0 where
+  pub kept : (last : ℕ) → r ≡ Some last → (last < n) × (j ≤ last) × (sound_past w n j ≡ sound_past w n last)
+  pub broken : r ≡ None → sound_past w n j ≡ false

@@ -1,9 +1,8 @@
 -- Lists of entries and of ranges: their rules, and lists as arrays of words.
 use Rattle.std.specs.Prelude.{ℕ, zero, suc, ◌+◌, ◌*◌, ◌/◌, ◌%◌, Bool, ◌&&◌, List, [], ◌∷◌, leb, length, get_or, set, replicate}
 use Rattle.lists.specs.declared.AddressEntry.{AddressEntry}
-use Rattle.lists.specs.declared.AddressList.{AddressList}
 use Rattle.lists.specs.declared.RouteRange.{RouteRange}
-use Rattle.lists.specs.declared.RouteList.{RouteList}
+use Rattle.lists.specs.declared.WordList.{WordList}
 use Rattle.octets.specs.Scan.{from, all_of}
 use Rattle.lists.specs.Rules.{id_of, sound_entry, before_all, sound_after}
 
@@ -109,14 +108,14 @@ put_range w i r =
     (i * words_per_range + 5)
     r.end_lo
 
-abbrev pub address_list : List AddressEntry → AddressList
+abbrev pub address_list : List AddressEntry → WordList address_words
 address_list es = record { words = pack_entries es }
 
-abbrev pub route_list : List RouteRange → RouteList
+abbrev pub route_list : List RouteRange → WordList route_words
 route_list rs = record { words = pack_ranges rs }
 
-abbrev pub no_addresses : AddressList
+abbrev pub no_addresses : WordList address_words
 no_addresses = record { words = replicate address_words 0 }
 
-abbrev pub no_routes : RouteList
+abbrev pub no_routes : WordList route_words
 no_routes = record { words = replicate route_words 0 }

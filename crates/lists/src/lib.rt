@@ -3,9 +3,10 @@
 // count is 0 where the box made the list, and is ignored where one is handed in. Nothing here refuses: the tests answer yes or no.
 #![tactic(auto)]
 
-ghost use Rattle.std.specs.Prelude.{◌≡◌, true, ◌+◌, ◌*◌, ◌^◌, ◌≤◌, ◌<◌, ltb, length};
+ghost use Rattle.std.specs.Prelude.{◌≡◌, true, ◌+◌, ◌*◌, ◌^◌, ◌≤◌, ◌<◌, ◌-◌, ◌&&◌, leb, ltb, cond, length, replicate};
+ghost use Rattle.octets.specs.Wide.{wide, low_zero};
 ghost use Rattle.lists.specs.Rules.{sound_entry, sound_range, in_order, before_all};
-ghost use Rattle.lists.specs.Words.{max_addresses, max_ranges, address_words, route_words, entry_at, range_at, entries_of, ranges_of, put_entry, put_range, sound_addresses, sound_routes, no_addresses, no_routes};
+ghost use Rattle.lists.specs.Words.{max_addresses, max_ranges, address_words, route_words, entry_at, range_at, entries_of, ranges_of, put_entry, put_range, sound_addresses, sound_routes};
 ghost use Rattle.lists.specs.Runs.{Ran};
 ghost use Rattle.lists.specs.Joined.{Joins};
 
@@ -54,78 +55,61 @@ pub struct RouteRange {
     pub end_lo: u64,
 }
 
-// Entry i has the words 4 i + 1 to 4 i + 4: Request ID, version + 256 * prefix, hi, lo.
+// A list of N words: the count and the elements.
 #[repr(C)]
 #[derive(Clone, Copy)]
-pub struct AddressList {
-    pub words: [u64; ADDRESS_WORDS],
+pub struct WordList<const N: usize> {
+    pub words: [u64; N],
 }
+
+// Entry i has the words 4 i + 1 to 4 i + 4: Request ID, version + 256 * prefix, hi, lo.
+pub type AddressList = WordList<ADDRESS_WORDS>;
 
 // Range i has the words 5 i + 1 to 5 i + 5: version + 256 * protocol, start, end.
-#[repr(C)]
-#[derive(Clone, Copy)]
-pub struct RouteList {
-    pub words: [u64; ROUTE_WORDS],
-}
+pub type RouteList = WordList<ROUTE_WORDS>;
 
-// The empty lists.
-pub fn no_addresses() -> AddressList
-    ensures { result ≡ no_addresses }
-{
-    let words = [0u64; ADDRESS_WORDS];
-    AddressList { words }
-}
-
-pub fn no_routes() -> RouteList
-    ensures { result ≡ no_routes }
-{
-    let words = [0u64; ROUTE_WORDS];
-    RouteList { words }
+impl<const N: usize> WordList<N> {
+    // The list of no elements.
+    pub fn empty() -> WordList<N>
+        ensures { result ≡ record { words = replicate N 0 } }
+    {
+        WordList { words: [0; N] }
+    }
 }
 
 // Whether an entry keeps its rule.
 pub fn entry_sound(e: AddressEntry) -> bool
     ensures { result ≡ sound_entry e }
 {
-    let id = e.request_id;
-    if varint::LIMIT <= id.0 {
-        return false;
-    }
-    if e.version == 4 {
-        if !octets::below(e.hi, e.lo, 0, IPV4_END) {
-            return false;
+    e.request_id.0 < varint::LIMIT
+        && match e.version {
+            4 => octets::below(e.hi, e.lo, 0, IPV4_END) && prefix_sound(e.prefix, 32, e.hi, e.lo),
+            6 => prefix_sound(e.prefix, 128, e.hi, e.lo),
+            _ => false,
         }
-        if 32 < e.prefix {
-            return false;
-        }
-        return octets::low_zero_wide((32 - e.prefix) as u64, e.hi, e.lo);
-    }
-    if e.version != 6 {
-        return false;
-    }
-    if 128 < e.prefix {
-        return false;
-    }
-    octets::low_zero_wide((128 - e.prefix) as u64, e.hi, e.lo)
+}
+
+// Whether a prefix is within the width of an address, with 0 in the bits beyond it.
+fn prefix_sound(prefix: u8, width: u8, hi: u64, lo: u64) -> bool
+    requires { width ≤ 128 }
+    ensures { result ≡ (leb prefix width && low_zero (width - prefix) (wide hi lo)) }
+{
+    prefix <= width && octets::low_zero_wide((width - prefix) as u64, hi, lo)
 }
 
 // Whether a range keeps its rule.
 pub fn range_sound(r: RouteRange) -> bool
     ensures { result ≡ sound_range r }
 {
-    if !octets::at_most(r.start_hi, r.start_lo, r.end_hi, r.end_lo) {
-        return false;
-    }
-    if r.version == 6 {
-        return true;
-    }
-    if r.version != 4 {
-        return false;
-    }
-    octets::below(r.end_hi, r.end_lo, 0, IPV4_END)
+    octets::at_most(r.start_hi, r.start_lo, r.end_hi, r.end_lo)
+        && if r.version == 4 {
+            octets::below(r.end_hi, r.end_lo, 0, IPV4_END)
+        } else {
+            r.version == 6
+        }
 }
 
-// Whether range b may follow range a.
+// Whether range b may follow range a. The parts are compared one by one, since the last of them is not compared as the others are.
 pub fn in_order(a: RouteRange, b: RouteRange) -> bool
     ensures { result ≡ in_order a b }
 {
@@ -160,7 +144,7 @@ pub fn entry_at(w: &[u64], i: usize) -> AddressEntry
     }
 }
 
-// Range i of the words.
+// Range i of the words. An entry and a range differ in their fields, and a trait of both would list these once more: here, and where they are stored.
 pub fn range_at(w: &[u64], i: usize) -> RouteRange
     requires route_words_in_bounds { route_words ≤ length w.now }
     requires i_lt_max_ranges { i < max_ranges }
@@ -229,29 +213,23 @@ pub fn short_addresses(w: &[u64]) -> bool
     requires { address_words ≤ length w.now }
     ensures { result ≡ true → sound_addresses (entries_of w.now) ≡ true }
 {
-    if w[0] == 0 {
-        return true;
+    match w[0] {
+        0 => true,
+        1 => entry_sound(entry_at(w, 0)),
+        _ => false,
     }
-    if w[0] != 1 {
-        return false;
-    }
-    let e = entry_at(w, 0);
-    entry_sound(e)
 }
 
-// The same of a list of at most one range.
+// The same of a list of at most one range. One function of both would take a trait with the element, its test and the rule of the list.
 pub fn short_routes(w: &[u64]) -> bool
     requires { route_words ≤ length w.now }
     ensures { result ≡ true → sound_routes (ranges_of w.now) ≡ true }
 {
-    if w[0] == 0 {
-        return true;
+    match w[0] {
+        0 => true,
+        1 => range_sound(range_at(w, 0)),
+        _ => false,
     }
-    if w[0] != 1 {
-        return false;
-    }
-    let r = range_at(w, 0);
-    range_sound(r)
 }
 
 // Entries of one tag put together: the bits of all their words, and where the next entry stands.
@@ -274,18 +252,21 @@ fn join(w: &[u64], i: usize, n: usize) -> Joined
     let tag = w[b + 2];
     let mut hi = w[b + 3];
     let mut lo = w[b + 4];
-    let mut next = i + 1;
-    while next < n {
+    for next in i + 1..n {
         let b = next * WORDS_PER_ENTRY;
         if w[b + 2] != tag {
             return Joined { next, id, hi, lo };
         }
-        id = id | w[b + 1];
-        hi = hi | w[b + 3];
-        lo = lo | w[b + 4];
-        next += 1;
+        id |= w[b + 1];
+        hi |= w[b + 3];
+        lo |= w[b + 4];
     }
-    Joined { next, id, hi, lo }
+    Joined {
+        next: n,
+        id,
+        hi,
+        lo,
+    }
 }
 
 // Whether the words are a sound list of addresses: the count within the limit, and every entry sound.
@@ -300,6 +281,7 @@ pub fn addresses_sound(w: &[u64]) -> bool
     }
     let n = count as usize;
     let mut i: usize = 0;
+    // no `for`: a turn goes on to the next tag
     while i < n {
         let tag = w[i * WORDS_PER_ENTRY + 2];
         let all = join(w, i, n);
@@ -318,13 +300,6 @@ pub fn addresses_sound(w: &[u64]) -> bool
     true
 }
 
-// A run of ranges of one tag, version and protocol: where its last one stands, and whether all behind its first are sound and in order.
-#[derive(Clone, Copy)]
-pub struct Run {
-    pub last: usize,
-    pub sound: bool,
-}
-
 // The bits of three words: 0 where all are 0.
 fn bits_of(a: u64, b: u64, c: u64) -> u64
     ensures { (a ≤ result) × (b ≤ result) × (c ≤ result) × (result ≤ a + b + c) }
@@ -332,114 +307,88 @@ fn bits_of(a: u64, b: u64, c: u64) -> u64
     a | b | c
 }
 
-// The end of a run of IPv4 ranges: nothing stands in a high word, and the last and greatest end is below 2^32.
-fn ended(last: usize, high: u64, end: u64) -> Run
-    ensures { (result.last ≡ last) × (result.sound ≡ ltb (high * 2 ^ 32 + end) (2 ^ 32)) }
+// The end of a run of IPv4 ranges, where it is sound: nothing stands in a high word, and the last and greatest end is below 2^32.
+fn ended(last: usize, high: u64, end: u64) -> Option<usize>
+    ensures { result ≡ cond (ltb (high * 2 ^ 32 + end) (2 ^ 32)) (Some last) None }
 {
-    if high != 0 {
-        return Run { last, sound: false };
-    }
-    let sound = end < IPV4_END;
-    Run { last, sound }
+    (high == 0 && end < IPV4_END).then_some(last)
 }
 
 // The run of IPv4 ranges behind range j, which is sound. The high words are judged at the end of the run, and so is the greatest end.
-fn run4(w: &[u64], j: usize, n: usize) -> Run
+fn run4(w: &[u64], j: usize, n: usize) -> Option<usize>
     requires route_words_in_bounds { route_words ≤ length w.now }
     requires j_in_list { (j < n) × (n ≤ max_ranges) }
     requires range_j_sound { (sound_range (range_at w.now j) ≡ true) × ((range_at w.now j).version ≡ 4) }
-    ensures { Ran w.now n j result.last result.sound }
+    ensures { Ran w.now n j result }
 {
     let b = j * WORDS_PER_RANGE;
     let tag = w[b + 1];
     let mut end = w[b + 5];
     let mut high: u64 = 0;
-    let mut i = j;
-    while i + 1 < n {
-        let k = i + 1;
-        let b = k * WORDS_PER_RANGE;
+    for last in j..n - 1 {
+        let b = (last + 1) * WORDS_PER_RANGE;
         let own = w[b + 1];
         if own != tag {
-            return ended(i, high, end);
+            return ended(last, high, end);
         }
         high = bits_of(high, w[b + 2], w[b + 4]);
         let start = w[b + 3];
         if start <= end {
-            return Run {
-                last: i,
-                sound: false,
-            };
+            return None;
         }
         let next = w[b + 5];
         if next < start {
-            return Run {
-                last: i,
-                sound: false,
-            };
+            return None;
         }
         end = next;
-        i = k;
     }
-    ended(i, high, end)
+    ended(n - 1, high, end)
 }
 
-// The run of IPv6 ranges behind range j.
-fn run6(w: &[u64], j: usize, n: usize) -> Run
+// The run of IPv6 ranges behind range j: both words of each number count, so that only the walk is that of `run4`.
+fn run6(w: &[u64], j: usize, n: usize) -> Option<usize>
     requires route_words_in_bounds { route_words ≤ length w.now }
     requires j_in_list { (j < n) × (n ≤ max_ranges) }
     requires range_j_sound { (sound_range (range_at w.now j) ≡ true) × ((range_at w.now j).version ≡ 6) }
-    ensures { Ran w.now n j result.last result.sound }
+    ensures { Ran w.now n j result }
 {
     let b = j * WORDS_PER_RANGE;
     let tag = w[b + 1];
     let mut hi = w[b + 4];
     let mut lo = w[b + 5];
-    let mut i = j;
-    while i + 1 < n {
-        let k = i + 1;
-        let b = k * WORDS_PER_RANGE;
+    for last in j..n - 1 {
+        let b = (last + 1) * WORDS_PER_RANGE;
         let own = w[b + 1];
         if own != tag {
-            return Run {
-                last: i,
-                sound: true,
-            };
+            return Some(last);
         }
         let start_hi = w[b + 2];
         let start_lo = w[b + 3];
         if !octets::below(hi, lo, start_hi, start_lo) {
-            return Run {
-                last: i,
-                sound: false,
-            };
+            return None;
         }
         hi = w[b + 4];
         lo = w[b + 5];
         if !octets::at_most(start_hi, start_lo, hi, lo) {
-            return Run {
-                last: i,
-                sound: false,
-            };
+            return None;
         }
-        i = k;
     }
-    Run {
-        last: i,
-        sound: true,
-    }
+    Some(n - 1)
 }
 
-// The run behind range j, of its version.
-fn run_behind(w: &[u64], j: usize, n: usize, version: u8) -> Run
+// The run behind range j, of its version: the place of its last range, where all behind its first are sound and in order.
+// Words, place and count are not one struct: it would state as ghost fields what is required here, and prove it where it is made.
+fn run_behind(w: &[u64], j: usize, n: usize, version: u8) -> Option<usize>
     requires route_words_in_bounds { route_words ≤ length w.now }
     requires j_in_list { (j < n) × (n ≤ max_ranges) }
     requires range_j_sound { (sound_range (range_at w.now j) ≡ true) × ((range_at w.now j).version ≡ version) }
-    ensures { Ran w.now n j result.last result.sound }
+    ensures { Ran w.now n j result }
 {
     if version == 4 {
-        return run4(w, j, n);
+        run4(w, j, n)
+    } else {
+        run6(w, j, n)
     }
-    run6(w, j, n)
 }
 
 // Whether the words are a sound list of routes: the count within the limit, every range sound, neighbours in order.
@@ -463,20 +412,15 @@ pub fn routes_sound(w: &[u64]) -> bool
     }
     let mut last = before_all();
     let mut i: usize = 0;
+    // no `for`: a turn goes over a run
     while i < n {
         let r = range_at(w, i);
-        if !range_sound(r) {
+        if !range_sound(r) || !in_order(last, r) {
             return false;
         }
-        if !in_order(last, r) {
+        let Some(k) = run_behind(w, i, n, r.version) else {
             return false;
-        }
-        let v = r.version;
-        let behind = run_behind(w, i, n, v);
-        if !behind.sound {
-            return false;
-        }
-        let k = behind.last;
+        };
         last = range_at(w, k);
         i = k + 1;
     }

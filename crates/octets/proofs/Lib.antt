@@ -4,4 +4,3 @@ pub mod Bits
 pub mod WideOrder
 pub mod Parts
 pub mod Scans
-pub mod Blocks

@@ -1,12 +1,11 @@
--- Parts of slices: `&s[n..]`, `&w[a..e]`, the same lent to be written and handed back, and the copy of words. Assumes nothing.
-use Prim.Native.Nat.{ℕ, zero, suc, ◌+◌, ◌-◌, ◌≤◌, ◌<◌}
-use mathlib.Core.Path.{◌≡◌, refl, sym, ap, ◌∙◌}
+-- Parts of slices: `&s[n..]`, `&w[a..e]`, and the same lent to be written and handed back. Assumes nothing.
+use Prim.Native.Nat.{ℕ, zero, suc, ◌+◌, ◌-◌, ◌≤◌}
+use mathlib.Core.Path.{◌≡◌, sym, ap, ◌∙◌}
 use mathlib.Core.List.{List, [], ◌∷◌, ◌++◌, append-nil, append_assoc}
 use native.Mathlib.Nat.{le_of_eq, sub-zero}
-use native.Mathlib.Numerals.{add-one}
 use native.Mathlib.Omega.{arith}
-use lib.ListN.{length, take, drop, get_or, set, length-set, length-append, length-drop, drop_of_length-le, take-append-drop}
-use lib.Seq.{take_all, take-suc-set, drop-cons, length-take-le, take_at, drop_at, drop-append-le, take-append-le, drop-drop, take-take, take-add, take-nil}
+use lib.ListN.{length, take, drop, length-append, length-drop, drop_of_length-le, take-append-drop}
+use lib.Seq.{take_all, length-take-le, take_at, drop_at, drop-append-le, take-append-le, drop-drop, take-take, take-add, take-nil}
 use borrow.Rule.Slice.PartMut.{put_mid, Post-is}
 use Rattle.octets.specs.Parts.{part, with_part}
 
@@ -27,39 +26,6 @@ is-part w a e n h = ap (λ (k : ℕ). take k (drop a w)) h
 -- `&mut w[a..e]` comes back as v
 pub put-part : (w : List ℕ) (a e : ℕ) (v : List ℕ) → a ≤ e → put_mid a (e - a) w v ≡ with_part w a e v
 put-part w a e v h = ap (λ (l : List ℕ). take a w ++ (v ++ l)) (Post-is a e w h)
-
--- ---- words copied
-
--- the first i words are copied
-pub record Copied (from to : List ℕ) (i : ℕ) : Type 0 where
-  pub within : i ≤ length from
-  pub size : length to ≡ length from
-  pub rest : take i to ++ drop i from ≡ from
-
-pub copy_start : (from to : List ℕ) → length from ≡ length to → Copied from to 0
-copy_start from to e = record { within = omega arith; size = sym e; rest = refl }
-
-module _ {from to : List ℕ} {i : ℕ} (s : Copied from to i) where
-  pub copy_next : i < length from → Copied from (set to i (get_or from i 0)) (i + 1)
-  copy_next h =
-      let b : i < length to = omega (arith, s.size) in
-      record {
-        within = omega arith;
-        size = length-set to i (get_or from i 0) ∙ s.size;
-        rest =
-            ap (λ (k : ℕ). take k (set to i (get_or from i 0)) ++ drop k from) (add-one i)
-            ∙ ap (λ (l : List ℕ). l ++ drop (suc i) from) (take-suc-set to i (get_or from i 0) b)
-            ∙ append_assoc (take i to) (get_or from i 0 ∷ []) (drop (suc i) from)
-            ∙ ap (λ (l : List ℕ). take i to ++ l) (sym (drop-cons from i 0 h))
-            ∙ s.rest;
-      }
-
-  pub copy_end : length from ≤ i → to ≡ from
-  copy_end h =
-      sym (append-nil to)
-      ∙ ap (λ (l : List ℕ). to ++ l) (sym (drop_of_length-le from h))
-      ∙ ap (λ (l : List ℕ). l ++ drop i from) (sym (take_all i to (omega (arith, s.size))))
-      ∙ s.rest
 
 -- ---- a part stored: read back it is what was stored, and every part before or after it is as it was
 

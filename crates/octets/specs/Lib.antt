@@ -2,4 +2,3 @@ pub mod Big
 pub mod Wide
 pub mod Scan
 pub mod Parts
-pub mod Blocks

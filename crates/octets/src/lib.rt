@@ -1,12 +1,11 @@
 // Numbers as bytes and as words: the big-endian value of up to 8 bytes, the bytes of a number, numbers of 128 bits in two words of 64,
-// the smaller of two lengths, and bytes and words copied.
+// and bytes copied.
 // The inner functions of the codecs above; each says what it requires, and no entry point of the box is here.
 #![tactic(auto)]
 
-ghost use Rattle.std.specs.Prelude.{◌≡◌, ◌++◌, ◌+◌, ◌-◌, ◌*◌, ◌<◌, ◌≤◌, ◌^◌, min, leb, ltb, length, take, drop};
+ghost use Rattle.std.specs.Prelude.{◌≡◌, ◌++◌, ◌+◌, ◌-◌, ◌*◌, ◌<◌, ◌≤◌, ◌^◌, leb, ltb, length, take, drop};
 ghost use Rattle.octets.specs.Big.{big_from, big_at, digits};
 ghost use Rattle.octets.specs.Wide.{wide, low_zero};
-ghost use Rattle.octets.specs.Blocks.{block};
 
 // The big-endian value of the bytes of s, after the digits that start stands for.
 pub fn big_from(start: u64, s: &[u8]) -> u64
@@ -14,10 +13,8 @@ pub fn big_from(start: u64, s: &[u8]) -> u64
     ensures { (result ≡ big_from start s.now) × (result < (start + 1) * 256 ^ length s.now) }
 {
     let mut acc = start;
-    let mut i = 0;
-    while i < s.len() {
-        acc = acc * 256 + (s[i] as u64);
-        i += 1;
+    for &b in s {
+        acc = acc * 256 + (b as u64);
     }
     acc
 }
@@ -37,29 +34,21 @@ pub fn put_digits(out: &mut [u8], n: usize, v: u64)
     ensures { out.new ≡ digits n v ++ drop n out.old }
 {
     let mut rest = v;
-    let mut i = n;
-    while 0 < i {
-        i -= 1;
+    for i in (0..n).rev() {
         out[i] = (rest % 256) as u8;
-        rest = rest / 256;
+        rest /= 256;
     }
 }
 
-// a ≤ b, as numbers of 128 bits. The high words are asked for `<` first: asked for `==` first, the compiler makes one test of all four words, which waits for
-// each of them.
+// a ≤ b, as numbers of 128 bits: not b < a.
 pub fn at_most(a_hi: u64, a_lo: u64, b_hi: u64, b_lo: u64) -> bool
     ensures { result ≡ leb (wide a_hi a_lo) (wide b_hi b_lo) }
 {
-    if a_hi < b_hi {
-        return true;
-    }
-    if a_hi == b_hi {
-        return a_lo <= b_lo;
-    }
-    false
+    !below(b_hi, b_lo, a_hi, a_lo)
 }
 
-// a < b, as numbers of 128 bits, in the same order.
+// a < b, as numbers of 128 bits. The high words are asked for `<` first: asked for `==` first, the compiler makes one test of all four words, which waits for
+// each of them. Tried: of the order of two pairs, and of two u128, it makes such a test too.
 pub fn below(a_hi: u64, a_lo: u64, b_hi: u64, b_lo: u64) -> bool
     ensures { result ≡ ltb (wide a_hi a_lo) (wide b_hi b_lo) }
 {
@@ -93,52 +82,13 @@ pub fn low_zero_wide(k: u64, hi: u64, lo: u64) -> bool
     false
 }
 
-// The smaller of two lengths.
-pub fn least(a: usize, b: usize) -> usize
-    ensures { result ≡ min a b }
-{
-    if a < b { a } else { b }
-}
-
-// The bytes of a block.
-const BLOCK: usize = 4096;
-
-// Copies all of src to the front of dst, and returns its length: block by block.
+// Copies all of src to the front of dst, and returns its length.
 pub fn copy(src: &[u8], dst: &mut [u8]) -> usize
     requires { length src.now ≤ length dst.old }
     ensures value { result ≡ length src.now }
     ensures dst_after { dst.new ≡ take (length src.now) src.now ++ drop (length src.now) dst.old }
 {
     let n = src.len();
-    let mut done: usize = 0;
-    while BLOCK < n - done {
-        copy_block(&src[done..done + BLOCK], &mut dst[done..]);
-        done += BLOCK;
-    }
-    copy_block(&src[done..], &mut dst[done..]);
+    dst[..n].copy_from_slice(src);
     n
-}
-
-// The same of at most a block. The bytes go through an array that overlaps with neither slice: so the compiler knows that all of them may be read before one is
-// written, leaves the array out, and calls memmove. Without it the copy is a loop of 32 bytes a turn, for slices that might overlap.
-fn copy_block(src: &[u8], dst: &mut [u8])
-    requires { (length src.now ≤ block) × (length src.now ≤ length dst.old) }
-    ensures { dst.new ≡ src.now ++ drop (length src.now) dst.old }
-{
-    let n = src.len();
-    let mut through = [0u8; BLOCK];
-    through[..n].copy_from_slice(src);
-    dst[..n].copy_from_slice(&through[..n]);
-}
-
-// Copies words to as many words.
-pub fn copy_words(from: &[u64], to: &mut [u64])
-    requires { length from.now ≡ length to.old }
-    ensures { to.new ≡ from.now }
-{
-    let mut i: usize = 0;
-    while i < from.len() {
-        to[i] = from[i];
-        i += 1;
-    }
 }

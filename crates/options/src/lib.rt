@@ -8,18 +8,12 @@ ghost use Rattle.options.specs.Help.{AsksHelp, dash};
 pub fn is_help(arg: &[u8]) -> bool
     ensures { AsksHelp arg.now result }
 {
-    if arg == b"--help".as_slice() {
-        return true;
-    }
-    arg == b"-h".as_slice()
+    matches!(arg, b"--help" | b"-h")
 }
 
 // Whether an argument begins with `-`. A file of such a name is given as `./-NAME`.
 pub fn is_option(arg: &[u8]) -> bool
     ensures { result ≡ eqb (get_or arg.now 0 0) dash }
 {
-    if arg.len() == 0 {
-        return false;
-    }
-    arg[0] == b'-'
+    arg.first() == Some(&b'-')
 }

@@ -5,7 +5,7 @@ use mathlib.Core.List.{List, [], ◌∷◌, ◌++◌, append_assoc, append-nil}
 use native.Mathlib.Numerals.{add-one}
 use native.Mathlib.Omega.{arith}
 use lib.ListN.{length, take, drop, set, length-set, length-append, length-take, length-drop, take-append-drop}
-use lib.Seq.{take-length, take_at, drop_at, drop-drop, take-suc-set, drop-set-lt}
+use lib.Seq.{take_at, drop_at, drop-drop, take-suc-set, drop-set-lt}
 use borrow.Rule.Slice.PartMut.{put_mid}
 use Rattle.octets.proofs.Parts.{tail, put_tail}
 use Rattle.output.specs.Places.{Put}
@@ -63,12 +63,6 @@ put_as e p = rw e at p
 
 abbrev pub lent : ℕ → List ℕ → List ℕ
 lent at a = take (length a - at) (drop at a)
-
-pub put-copied : (m : List ℕ) (at k : ℕ) (a : List ℕ) → k ≡ length m → at + length m ≤ length a → {b : List ℕ}
-    → b ≡ take (length m) m ++ drop (length m) (lent at a) → Put m at a (at + k) (put_mid at (length a - at) a b)
-put-copied m at k a e h f =
-    put_back m at k a e (omega arith)
-    (f ∙ ap (λ (l : List ℕ). l ++ drop (length m) (lent at a)) (take-length m) ∙ ap (λ (n : ℕ). m ++ drop n (lent at a)) (sym e))
 
 -- a message at the front
 pub put_front : {m a b : List ℕ} {r : ℕ} → Put m 0 a r b → (r ≡ length m) × (b ≡ m ++ drop (length m) a)

@@ -1,5 +1,6 @@
 // Bytes put at a place of a lent output: each function hands back the place behind them, and every other byte stays as it was.
 // Inner functions of the writers above, which have tested that there is room.
+// The output and the place stay two parameters: `Put`, by which every contract above says what is written, is of the two, and callers are lent the output.
 #![tactic(auto)]
 
 ghost use Rattle.std.specs.Prelude.{◌+◌, ◌<◌, ◌≤◌, [], ◌∷◌, length};
@@ -20,15 +21,6 @@ pub fn put_bytes(out: &mut [u8], at: usize, value: &[u8]) -> usize
 {
     let n = value.len();
     out[at..at + n].copy_from_slice(value);
-    at + n
-}
-
-// The same, for what may be long: few bytes are faster in the loop above.
-pub fn put_many(out: &mut [u8], at: usize, value: &[u8]) -> usize
-    requires { at + length value.now ≤ length out.old }
-    ensures { Put value.now at out.old result out.new }
-{
-    let n = octets::copy(value, &mut out[at..]);
     at + n
 }
 

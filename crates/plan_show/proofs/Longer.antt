@@ -1,4 +1,5 @@
 -- Where a file is long, what stands behind its front has no part in its lines: reading stops before. Assumes nothing.
+use Rattle.std.proofs.Common.{Some}
 use Prim.Native.Nat.{ℕ, zero, suc, ◌+◌, ◌-◌, ◌*◌, ◌/◌, ◌^◌, ◌≤◌, ◌<◌}
 use mathlib.Core.Bool.{Bool, true, false, not, ◌&&◌}
 use mathlib.Core.Path.{◌≡◌, refl, sym, ap, ◌∙◌}
@@ -16,8 +17,7 @@ use Rattle.answer.specs.declared.Refusal.TheVariants.{PlanMark, PlanVersion, Pla
 use Rattle.answer.proofs.Tests.{order}
 use Rattle.octets.specs.Big.{Bytes}
 use Rattle.octets.proofs.BigLaws.{bytes_take, bytes_drop}
-use Rattle.varint.specs.declared.NumberRead.TheVariants.{Whole}
-use Rattle.varint.specs.Numbers.{room, form_size, read_number, shortest}
+use Rattle.varint.specs.Numbers.{room, form_size, read_number, shortest, number}
 use Rattle.varint.proofs.Reading.{value_of, whole, form-below}
 use Rattle.table.specs.declared.Segment.{Segment}
 use Rattle.table.specs.Limits.{max_templates, max_segments, static_limit}
@@ -94,9 +94,9 @@ module _ (t : List ℕ) where
       let m : z ≤ length s = omega (arith, size-most s b) in
       let l : z ≤ length (s ++ t) = omega (arith, m, length-append s t) in
       let p : 1 ≤ length s = omega arith in
-      let e : read_number s ≡ Whole (value_of z s) z = sym (whole s z (value_of z s) refl m refl) in
+      let e : read_number s ≡ Some (number (value_of z s) z) = sym (whole s z (value_of z s) refl m refl) in
       let f : z ≡ form_size (s ++ t) = sym (ap (λ (x : ℕ). 2 ^ (x / 64)) (get_or-append s t 0 0 p)) in
-      let d : read_number (s ++ t) ≡ Whole (value_of z s) z = sym (whole (s ++ t) z (value_of z s) f l (sym (value_same s z m p))) in
+      let d : read_number (s ++ t) ≡ Some (number (value_of z s) z) = sym (whole (s ++ t) z (value_of z s) f l (sym (value_same s z m p))) in
       rw (e, d) (grown_holding (shortest (value_of z s) z) PlanNotShortest (λ q. grown_behind (value_of z s) k z s b (omega (arith, size-most s b))))
 
   two_grown : (k : ℕ) (s : List ℕ) → Bytes s → 2 * number_most + k ≤ length s → Grown (λ v. k) t (two_in s) (two_in (s ++ t))

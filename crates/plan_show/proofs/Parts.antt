@@ -1,11 +1,12 @@
 -- The lines of a plan part by part, as the code puts them. Assumes nothing.
 use Prim.Native.Nat.{ℕ, ◌+◌, ◌-◌, ◌<◌, ◌≤◌}
-use mathlib.Core.Bool.{true, false}
 use mathlib.Core.Path.{◌≡◌, ap}
 use mathlib.Core.List.{List, ◌++◌}
 use lib.ListN.{length}
+use Rattle.std.proofs.Common.{Some, None}
 use Rattle.output.specs.Places.{Put}
 use Rattle.output.proofs.Placing.{put_then, put_as, Putting, putting_first}
+use Rattle.table.specs.declared.Checksum.{Checksum}
 use Rattle.table.specs.declared.Head.{Head}
 use Rattle.table.specs.Templates.{static_size}
 use Rattle.table.specs.Words.{head_of, template_of, count_in, words_at, templates_of}
@@ -18,10 +19,10 @@ use Rattle.plan_show.proofs.Rooms.{room-first, room_next, room_as}
 -- ---- a template
 
 module _ (t : List ℕ) {h : Head} (q : h ≡ head_of t) where
-  pub sum-none : h.checksum ≡ false → ascii " checksum none\n" ≡ sum_text (template_of t).sum
+  pub sum-none : h.checksum ≡ None → ascii " checksum none\n" ≡ sum_text (template_of t).sum
   sum-none e = rw (sum-of t, ← q, e)
 
-  pub sum-some : h.checksum ≡ true → labelled (ascii " checksum ") h.field ++ last_labelled (ascii " ") h.start ≡ sum_text (template_of t).sum
+  pub sum-some : {k : Checksum} → h.checksum ≡ Some k → labelled (ascii " checksum ") k.field ++ last_labelled (ascii " ") k.start ≡ sum_text (template_of t).sum
   sum-some e = rw (sum-of t, ← q, e)
 
   -- ---- its line

@@ -1,11 +1,11 @@
 -- The lines of a plan fit into their room. Assumes nothing.
+use Rattle.std.proofs.Common.{Ok}
 use Prim.Native.Nat.{ℕ, ◌+◌, ◌*◌, ◌^◌, ◌≤◌, ◌<◌}
 use mathlib.Core.Path.{◌≡◌}
 use mathlib.Core.Bool.{true}
 use mathlib.Core.List.{List, [], ◌∷◌, ◌++◌}
 use native.Mathlib.Omega.{arith}
 use lib.ListN.{length, length-append}
-use Rattle.answer.specs.declared.Verdict.TheVariants.{Go}
 use Rattle.answer.proofs.Tables.{then_first, then_second}
 use Rattle.table.specs.Templates.{Piece, Sum, no_sum, sum_at, Template, static_size}
 use Rattle.table.specs.Words.{count_in, templates_of}
@@ -62,7 +62,7 @@ line_most previous t f =
 
 -- ---- all lines
 
-templates-most : (previous : ℕ) (ts : List Template) → templates_fault previous ts ≡ Go → length (template_lines ts) ≤ line_room * length ts
+templates-most : (previous : ℕ) (ts : List Template) → templates_fault previous ts ≡ Ok tt → length (template_lines ts) ≤ line_room * length ts
 templates-most previous [] e = omega arith
 templates-most previous (t ∷ ts) e =
     let rest = templates_fault t.id ts in

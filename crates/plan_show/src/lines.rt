@@ -2,14 +2,13 @@
 // or `refused NUMBER`. `specs/Lines.antt` says which bytes they are.
 ghost use Rattle.std.specs.Prelude.{◌≡◌, true, ◌+◌, ◌≤◌, length};
 ghost use Rattle.output.specs.Places.{Put};
-ghost use Rattle.table.specs.Words.{template_words, table_words, template_of, templates_of};
+ghost use Rattle.table.specs.Words.{table_words, template_of, templates_of};
 ghost use Rattle.table.specs.Rules.{sound_templates};
-ghost use Rattle.table.specs.Sound.{UsableTemplate, Usable};
+ghost use Rattle.table.specs.Sound.{Usable};
 ghost use Rattle.plan_show.specs.Lines.{sum_text, template_line, template_lines, table_lines, plan_lines};
 
 use crate::text::{put_decimal, put_labelled, put_last};
-use answer::Verdict;
-use table::{MAX_TEMPLATES, TABLE_WORDS, TEMPLATE_WORDS};
+use table::{MAX_TEMPLATES, TABLE_WORDS, Template, template_at};
 
 // The most digits of a Context ID, of a count, and of an offset or a size.
 const ID_DIGITS: usize = 19;
@@ -34,10 +33,9 @@ pub(crate) fn plan_lines(file: &[u8], out: &mut [u8; LINES_ROOM]) -> usize
     ensures { Put (plan_lines file.now) 0 out.old result out.new }
 {
     let mut words = [0u64; TABLE_WORDS];
-    let verdict = table::read_plan(file, &mut words);
-    match verdict {
-        Verdict::Go => put_table(out, &words),
-        Verdict::Stop(why) => put_last(out, 0, b"refused ", why.number() as u64),
+    match table::read_plan(file, &mut words) {
+        Ok(()) => put_table(out, &words),
+        Err(why) => put_last(out, 0, b"refused ", why.number() as u64),
     }
 }
 
@@ -58,42 +56,35 @@ fn put_templates(out: &mut [u8], at: usize, w: &[u64]) -> usize
 {
     let n = w[0] as usize;
     let mut next = at;
-    let mut i: usize = 0;
-    while i < n {
-        let from = 1 + i * TEMPLATE_WORDS;
-        let end = from + TEMPLATE_WORDS;
-        next = put_template(out, next, &w[from..end]);
-        i += 1;
+    for i in 0..n {
+        next = put_template(out, next, template_at(w, i));
     }
     next
 }
 
 // The line of a template.
-fn put_template(out: &mut [u8], at: usize, t: &[u64]) -> usize
-    requires template_words_in_bounds { template_words ≤ length t.now }
-    requires usable_template { UsableTemplate t.now }
-    requires t_in_bounds { at + length (template_line (template_of t.now)) ≤ length out.old }
-    ensures { Put (template_line (template_of t.now)) at out.old result out.new }
+fn put_template(out: &mut [u8], at: usize, t: Template<'_>) -> usize
+    requires { at + length (template_line (template_of t.words.now)) ≤ length out.old }
+    ensures { Put (template_line (template_of t.entry.words.now)) at out.old result out.new }
 {
-    let head = table::head_of(t);
-    let id = head.id;
-    let size = table::static_size(t);
-    let segments = put_decimal(out, at, id.0);
+    let head = t.head();
+    let size = t.static_size();
+    let segments = put_decimal(out, at, head.id.0);
     let bytes = put_labelled(out, segments, b" segments ", head.count as u64);
     let checksum = put_labelled(out, bytes, b" static ", size as u64);
     put_checksum(out, checksum, t)
 }
 
 // Field and start, or none; and the end of the line.
-fn put_checksum(out: &mut [u8], at: usize, t: &[u64]) -> usize
-    requires template_words_in_bounds { template_words ≤ length t.now }
-    requires t_in_bounds { at + length (sum_text (template_of t.now).sum) ≤ length out.old }
-    ensures { Put (sum_text (template_of t.now).sum) at out.old result out.new }
+fn put_checksum(out: &mut [u8], at: usize, t: Template<'_>) -> usize
+    requires { at + length (sum_text (template_of t.words.now).sum) ≤ length out.old }
+    ensures { Put (sum_text (template_of t.entry.words.now).sum) at out.old result out.new }
 {
-    let head = table::head_of(t);
-    if head.checksum {
-        let start = put_labelled(out, at, b" checksum ", head.field as u64);
-        return put_last(out, start, b" ", head.start as u64);
+    match t.head().checksum {
+        Some(sum) => {
+            let start = put_labelled(out, at, b" checksum ", sum.field as u64);
+            put_last(out, start, b" ", sum.start as u64)
+        }
+        None => output::put_bytes(out, at, b" checksum none\n"),
     }
-    output::put_bytes(out, at, b" checksum none\n")
 }

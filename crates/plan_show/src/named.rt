@@ -33,16 +33,17 @@ pub(crate) fn show_named(rt: &HostRuntime, name: &[u8]) -> io::Result<()>
 
 // The library opens files whose names are UTF-8, and no others.
 fn open(rt: &HostRuntime, name: &[u8]) -> io::Result<File> {
-    match str::from_utf8(name) {
-        Ok(path) => File::open(rt, path),
-        Err(_) => Err(Error::new(
+    let Ok(path) = str::from_utf8(name) else {
+        return Err(Error::new(
             ErrorKind::InvalidInput,
             "the name is not UTF-8; give the file on standard input",
-        )),
-    }
+        ));
+    };
+    File::open(rt, path)
 }
 
-// Reads on behind the first bytes until the input is full or ends, and answers how many bytes there are then.
+// Reads on behind the first bytes until the input is full or ends, and answers how many bytes there are then. `read_exact` would refuse a shorter
+// input, and `read_to_end` needs a Vec.
 pub(crate) fn read_on(from: &mut impl Read, input: &mut [u8], first: usize) -> io::Result<usize>
     requires { first ≤ length input.old }
     ensures { ReadsAtMost result input.new }

@@ -7,6 +7,7 @@ ghost use Rattle.plan_show.specs.Lines.{labelled, last_labelled};
 // A number of 64 bits has at most 20 digits.
 const MAX_DIGITS: usize = 20;
 
+// `write!` has no writer that is a slice: the digits would go to an `InlineText` first, and be copied from there.
 pub(crate) fn put_decimal(out: &mut [u8], at: usize, n: u64) -> usize
     requires { at + length (decimal n) ≤ length out.old }
     ensures { Put (decimal n) at out.old result out.new }
@@ -22,10 +23,11 @@ fn put_digits(out: &mut [u8], at: usize, n: u64, most: usize) -> usize
     if most == 0 {
         return at;
     }
-    let mut next = at;
-    if n >= 10 {
-        next = put_digits(out, at, n / 10, most - 1);
-    }
+    let next = if n >= 10 {
+        put_digits(out, at, n / 10, most - 1)
+    } else {
+        at
+    };
     output::put_byte(out, next, (48 + n % 10) as u8)
 }
 

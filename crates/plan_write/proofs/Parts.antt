@@ -1,17 +1,18 @@
 -- The bytes of a file part by part, as the code puts them. Assumes nothing.
 use Prim.Native.Nat.{ℕ, suc, ◌+◌, ◌-◌, ◌<◌, ◌≤◌}
-use mathlib.Core.Bool.{true, false}
 use mathlib.Core.Path.{◌≡◌, refl, sym, ap, ◌∙◌}
 use mathlib.Core.List.{List, [], ◌∷◌, ◌++◌, map}
 use native.Mathlib.Nat.{sub-zero}
 use native.Mathlib.Omega.{arith}
 use lib.ListN.{length, length-append}
+use Rattle.std.proofs.Common.{Some, None}
 use Rattle.varint.specs.Numbers.{limit, encode}
 use Rattle.octets.specs.Scan.{from}
-use Rattle.octets.proofs.Scans.{from_more, from_end, length_from}
+use Rattle.octets.proofs.Scans.{from_more, length_from}
 use Rattle.output.specs.Places.{Put}
 use Rattle.output.proofs.Placing.{put_then, put_as, Putting, putting_first}
 use Rattle.table.specs.declared.Segment.{Segment}
+use Rattle.table.specs.declared.Checksum.{Checksum}
 use Rattle.table.specs.declared.Head.{Head}
 use Rattle.table.specs.Limits.{max_segments, static_limit}
 use Rattle.table.specs.Templates.{Piece, sum_at}
@@ -26,9 +27,6 @@ use Rattle.table.proofs.Judging as Judging
 
 -- what is left of n positions, of which i are put
 module _ (t : List ℕ) (offset n : ℕ) where
-  pub static-start : window t (offset + 0) (n - 0) ≡ window t offset n
-  static-start = let e : offset + 0 ≡ offset = omega arith in rw (e, sub-zero)
-
   pub static-more : (i : ℕ) {b : ℕ} → i < n → b ≡ byte_at t (offset + i) → window t (offset + i) (n - i) ≡ (b ∷ []) ++ window t (offset + (i + 1)) (n - (i + 1))
   static-more i h q =
       let e : n - i ≡ suc (n - (i + 1)) = omega arith in
@@ -40,9 +38,6 @@ module _ (t : List ℕ) (offset n : ℕ) where
       → Putting (window t (offset + i) (n - i)) (window t offset n) start before next out → start + n ≤ length before → next < length out
   static-room i {b} h q p r =
       omega (arith, putting_first p (b ∷ []) (window t (offset + (i + 1)) (n - (i + 1))) (static-more i h q) (omega (arith, length_from (byte_at t) offset n)))
-
-  pub static-none : (i : ℕ) → n ≤ i → window t (offset + i) (n - i) ≡ []
-  static-none i h = let e : n - i ≡ 0 = omega arith in rw e
 
 -- ---- a segment
 
@@ -85,24 +80,21 @@ module _ (t : List ℕ) where
   piece_room j n {s} h q p r =
       putting_first p (piece_bytes (piece_of t s)) (pieces_bytes (pieces_from t (j + 1) (n - (j + 1)))) (pieces_more j n h q) r
 
-  pub pieces_none : (j n : ℕ) → n ≤ j → pieces_bytes (pieces_from t j (n - j)) ≡ []
-  pieces_none j n h = ap (λ (ss : List Segment). pieces_bytes (map (piece_of t) ss)) (from_end (segment_at t) j n h)
-
   -- ---- its checksum
 
   module _ {h : Head} (q : h ≡ head_of t) where
-    pub sum-none : h.checksum ≡ false → 0 ∷ [] ≡ sum_bytes (template_of t).sum
+    pub sum-none : h.checksum ≡ None → 0 ∷ [] ≡ sum_bytes (template_of t).sum
     sum-none e = rw (sum-of t, ← q, e)
 
-    pub sum-some : h.checksum ≡ true → 1 ∷ (encode h.field ++ encode h.start) ≡ sum_bytes (template_of t).sum
+    pub sum-some : {k : Checksum} → h.checksum ≡ Some k → 1 ∷ (encode k.field ++ encode k.start) ≡ sum_bytes (template_of t).sum
     sum-some e = rw (sum-of t, ← q, e)
 
-    pub length_sum : h.checksum ≡ true → length (sum_bytes (template_of t).sum) ≡ 1 + (length (encode h.field) + length (encode h.start))
-    length_sum e = omega (arith, ap length (sum-some e), length-append (encode h.field) (encode h.start))
+    pub length_sum : {k : Checksum} → h.checksum ≡ Some k → length (sum_bytes (template_of t).sum) ≡ 1 + (length (encode k.field) + length (encode k.start))
+    length_sum {k} e = omega (arith, ap length (sum-some e), length-append (encode k.field) (encode k.start))
 
-    pub sum-place : UsableTemplate t → h.checksum ≡ true → SumFacts h.field h.start (template_of t).pieces
-    sum-place u e =
-        let s : (template_of t).sum ≡ sum_at h.field h.start = rw (sum-of t, ← q, e) in
+    pub sum-place : {k : Checksum} → UsableTemplate t → h.checksum ≡ Some k → SumFacts k.field k.start (template_of t).pieces
+    sum-place {k} u e =
+        let s : (template_of t).sum ≡ sum_at k.field k.start = rw (sum-of t, ← q, e) in
         rw s at u.sound.summed
 
     -- ---- all of it
@@ -129,11 +121,6 @@ module _ (t : List ℕ) where
     pub put-template : {a b c d o : List ℕ} {at p q r s : ℕ} → Put (encode h.id.0) at a p b → Put (h.count ∷ []) p b q c
         → Put (pieces_bytes (template_of t).pieces) q c r d → Put (sum_bytes (template_of t).sum) r d s o → Put (template_bytes (template_of t)) at a s o
     put-template x y z w = put_as template-bytes (put_then x (put_then y (put_then z w)))
-
--- ---- mark and version
-
-pub put-head : {a b c d : List ℕ} {at p q r : ℕ} → Put mark at a p b → Put (0 ∷ []) p b q c → Put (1 ∷ []) q c r d → Put (mark ++ version) at a r d
-put-head x y z = put_then x (put_then y z)
 
 -- ---- the templates of a table
 

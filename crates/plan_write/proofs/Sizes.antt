@@ -1,16 +1,18 @@
 -- The file of a sound table fits into the least output: a template takes at most 8 bytes for its ID, 1 for its count of segments, 4 for each segment
 -- beside the static bytes, and 5 for its checksum; mark, version and count take 6. Assumes nothing.
+use Rattle.std.proofs.Common.{Option, Some, None}
 use Prim.Native.Nat.{ℕ, zero, suc, ◌+◌, ◌-◌, ◌*◌, ◌^◌, ◌≤◌}
-use mathlib.Core.Path.{ap, refl}
+use mathlib.Core.Path.{◌≡◌, ap, refl}
 use mathlib.Core.List.{List, [], ◌∷◌, ◌++◌}
 use mathlib.Core.Logic.{⊎_elim}
 use native.Mathlib.Omega.{arith}
 use lib.ListN.{length, length-append}
-use Rattle.answer.proofs.Tests.{order, true_or_false}
+use Rattle.answer.proofs.Tests.{order}
 use Rattle.varint.specs.Numbers.{encode}
 use Rattle.varint.proofs.Encoding.{length_encode, size-one, size-two, size-bounds}
 use Rattle.table.specs.Limits.{max_segments, static_limit}
 use Rattle.table.specs.Templates.{Template, Piece, piece_end}
+use Rattle.table.specs.declared.Checksum.{Checksum}
 use Rattle.table.specs.Words.{head_of, template_of, count_in, words_at, templates_of}
 use Rattle.table.specs.Rules.{plan_room}
 use Rattle.table.specs.File.{piece_bytes, pieces_bytes, sum_bytes, template_bytes, templates_bytes, plan_bytes}
@@ -50,14 +52,14 @@ template_most = 8 + 1 + max_segments * 4 + static_limit + 5
 
 module _ (t : List ℕ) (u : UsableTemplate t) where
   sum-most : length (sum_bytes (template_of t).sum) ≤ 5
-  sum-most =
-      let h = head_of t in
-      ⊎_elim
-      (λ e.
-      let f = sum-place t {h = h} refl u e in
-      omega (arith, length_sum t {h = h} refl e, encode-small h.field (omega (arith, f.high)), encode-small h.start (omega (arith, f.high, f.order))))
-      (λ e. omega (arith, ap length (sum-none t {h = h} refl e)))
-      (true_or_false h.checksum)
+  sum-most = of (head_of t).checksum refl
+    where
+      of : (c : Option Checksum) → (head_of t).checksum ≡ c → length (sum_bytes (template_of t).sum) ≤ 5
+      of (Some k) e =
+          let h = head_of t in
+          let f = sum-place t {h = h} refl u e in
+          omega (arith, length_sum t {h = h} refl e, encode-small k.field (omega (arith, f.high)), encode-small k.start (omega (arith, f.high, f.order)))
+      of None e = let h = head_of t in omega (arith, ap length (sum-none t {h = h} refl e))
 
   template-most : length (template_bytes (template_of t)) ≤ template_most
   template-most =

@@ -1,7 +1,6 @@
 -- Templates as they are written, and templates that are not, computed.
-use Rattle.std.specs.Prelude.{ℕ, ◌≡◌, refl, List, [], ◌∷◌}
+use Rattle.std.specs.Prelude.{ℕ, ◌≡◌, refl, List, [], ◌∷◌, Ok, Err}
 use Rattle.answer.specs.declared.Refusal.TheVariants.{NoRoom, PlanRule, PlanContext}
-use Rattle.answer.specs.declared.Verdict.TheVariants.{Go, Stop}
 use Rattle.varint.specs.Numbers.{encode}
 use Rattle.table.specs.Templates.{Template, sum_at}
 use Rattle.table.specs.Rules.{plan_room, template_fault, plan_fault, plan_verdict}
@@ -21,25 +20,25 @@ no-template_bytes : plan_bytes [] ≡ 0x56 ∷ 0x41 ∷ 0x4E ∷ 0x00 ∷ 0x01 �
 unfolding plan_bytes
 no-template_bytes = refl
 
-goes : plan_verdict (plan 2 100) plan_room ≡ Go
+goes : plan_verdict (plan 2 100) plan_room ≡ Ok tt
 unfolding plan_verdict plan_fault template_fault plan
 goes = refl
 
 -- ---- refused
 
-one_byte_less : plan_verdict (plan 2 100) 1399 ≡ Stop NoRoom
+one_byte_less : plan_verdict (plan 2 100) 1399 ≡ Err NoRoom
 unfolding plan_verdict
 one_byte_less = refl
 
 -- the room is tested before the plan
-room-first : plan_verdict (plan 0 100) 1399 ≡ Stop NoRoom
+room-first : plan_verdict (plan 0 100) 1399 ≡ Err NoRoom
 unfolding plan_verdict
 room-first = refl
 
-zero_id : plan_verdict (plan 0 100) plan_room ≡ Stop PlanContext
+zero_id : plan_verdict (plan 0 100) plan_room ≡ Err PlanContext
 unfolding plan_verdict plan_fault template_fault plan
 zero_id = refl
 
-odd_field : plan_verdict (plan 2 101) plan_room ≡ Stop PlanRule
+odd_field : plan_verdict (plan 2 101) plan_room ≡ Err PlanRule
 unfolding plan_verdict plan_fault template_fault plan
 odd_field = refl

@@ -12,24 +12,21 @@ ghost use Rattle.table.specs.File.{mark, version, templates_bytes, plan_bytes};
 ghost use Rattle.table.specs.Sound.{Usable};
 ghost use Rattle.plan_write.specs.Writing.{WritesPlan};
 
-use answer::{Answer, Refusal, Verdict};
-use table::{TABLE_WORDS, TEMPLATE_WORDS};
+use answer::Refusal;
+use table::TABLE_WORDS;
 
 // The least output that a plan is written to.
 pub const PLAN_ROOM: usize = 1400;
 
 // Writes the file of a table to the front of out.
-pub fn write_plan(table: &[u64; TABLE_WORDS], out: &mut [u8]) -> Answer
+pub fn write_plan(table: &[u64; TABLE_WORDS], out: &mut [u8]) -> Result<usize, Refusal>
     ensures { WritesPlan table.now out.old result out.new }
 {
     if out.len() < PLAN_ROOM {
-        return Answer::Refused(Refusal::NoRoom);
+        return Err(Refusal::NoRoom);
     }
-    let fault = table::table_fault(table);
-    match fault {
-        Verdict::Go => Answer::Done(put_plan(out, table)),
-        Verdict::Stop(why) => Answer::Refused(why),
-    }
+    table::table_fault(table)?;
+    Ok(put_plan(out, table))
 }
 
 // The file of a sound table.
@@ -70,12 +67,8 @@ fn put_templates(out: &mut [u8], at: usize, w: &[u64]) -> usize
 {
     let n = w[0] as usize;
     let mut next = at;
-    let mut i: usize = 0;
-    while i < n {
-        let from = 1 + i * TEMPLATE_WORDS;
-        let end = from + TEMPLATE_WORDS;
-        next = template_file::put_template(out, next, &w[from..end]);
-        i += 1;
+    for i in 0..n {
+        next = template_file::put_template(out, next, table::template_at(w, i));
     }
     next
 }

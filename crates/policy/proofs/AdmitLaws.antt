@@ -16,7 +16,7 @@ use Rattle.lists.specs.Rules.{start_of, end_of, sound_range, in_order, before_al
 use Rattle.lists.specs.Words.{words_per_range, count_of, range_at, ranges_of, sound_routes}
 use Rattle.lists.proofs.RangeRule.{range_facts}
 use Rattle.lists.proofs.ListScans.{routes_facts}
-use Rattle.policy.specs.Granted.{address_value, admits}
+use Rattle.policy.specs.Granted.{address_value, holds, allows, admits}
 
 module _ (a : Address) (p : ℕ) (icmp : Bool) (r : RouteRange) where
   pub admits-other_version : (r.version ≡ a.version → ⊥) → false ≡ admits a p icmp r
@@ -31,18 +31,13 @@ module _ (a : Address) (p : ℕ) (icmp : Bool) (r : RouteRange) where
   unfolding admits
   admits-past t = simp (t, and-false)
 
-  module _ (v : r.version ≡ a.version) (s : leb (start_of r) (address_value a) ≡ true) (t : leb (address_value a) (end_of r) ≡ true) where
-    pub admits_every : r.protocol ≡ 0 → true ≡ admits a p icmp r
-    unfolding admits
-    admits_every z = rw (eq-eqb r.version a.version v, s, t, eq-eqb r.protocol 0 z)
+  pub admits-not_held : holds a r ≡ false → false ≡ admits a p icmp r
+  unfolding admits
+  admits-not_held e = rw e
 
-    pub admits-named : (r.protocol ≡ 0 → ⊥) → r.protocol ≡ p → true ≡ admits a p icmp r
-    unfolding admits
-    admits-named n z = rw (eq-eqb r.version a.version v, s, t, ne_eqb r.protocol 0 n, eq-eqb r.protocol p z)
-
-    pub admits_icmp : (r.protocol ≡ 0 → ⊥) → (r.protocol ≡ p → ⊥) → icmp ≡ admits a p icmp r
-    unfolding admits
-    admits_icmp n m = rw (eq-eqb r.version a.version v, s, t, ne_eqb r.protocol 0 n, ne_eqb r.protocol p m)
+  pub admits_held : holds a r ≡ true → {t : Bool} → t ≡ allows p icmp r → t ≡ admits a p icmp r
+  unfolding admits
+  admits_held e q = rw e q
 
   -- of an IPv4 address and a sound range the low words alone tell that it is not held: a range of its version has no high words
   module _ (s : sound_range r ≡ true) (four : a.version ≡ 4) where

@@ -3,7 +3,6 @@ use Prim.Native.Nat.{ℕ, ◌^◌, ◌<◌}
 use mathlib.Core.Bool.{Bool, true, false, not, and-true, and-false}
 use mathlib.Core.Path.{◌≡◌, refl}
 use native.Mathlib.Nat.{sub-zero, div-eq_of_lt}
-use native.Mathlib.Omega.{arith}
 use borrow.Author.Tests.{eq-eqb, ne_eqb}
 use lib.Dec.{eqb}
 use Rattle.inet.specs.declared.Address.{Address}
@@ -14,15 +13,6 @@ use Rattle.policy.proofs.AddressBounds.{entry-within}
 
 -- a declined request
 module _ (e : AddressEntry) where
-  pub declined_hi : (e.hi ≡ 0 → ⊥) → false ≡ declined e
-  declined_hi n = simp (ne_eqb (address_of e) 0 (λ z. n (omega arith)))
-
-  pub declined_lo : (e.lo ≡ 0 → ⊥) → false ≡ declined e
-  declined_lo n = simp (ne_eqb (address_of e) 0 (λ z. n (omega arith)))
-
-  pub declined_zero : {w : ℕ} → e.hi ≡ 0 → e.lo ≡ 0 → w ≡ width_of e.version → eqb e.prefix w ≡ declined e
-  declined_zero h l q = rw (q, eq-eqb (address_of e) 0 (omega arith))
-
   -- the width is not 0
   pub declined_prefix_zero : e.prefix ≡ 0 → declined e ≡ false
   declined_prefix_zero z = go (eqb e.version 4) refl

@@ -1,6 +1,6 @@
 -- The verdict on a flow: what lowering keeps, the two ends exchanged, and ICMP. Assumes nothing.
 use Prim.Native.Nat.{ℕ, ◌≤◌}
-use mathlib.Core.Bool.{Bool, true, false, ◌||◌}
+use mathlib.Core.Bool.{Bool, true, false, ◌||◌, or_comm, or-true}
 use mathlib.Core.Path.{◌≡◌, refl, sym, ◌∙◌}
 use mathlib.Core.List.{List, [], ◌∷◌, ◌++◌}
 use lib.Dec.{eqb}
@@ -18,7 +18,7 @@ use Rattle.lists.specs.Words.{max_addresses, address_words, route_words, count_o
 use Rattle.lists.proofs.ListScans.{entries-within}
 use Rattle.policy.specs.declared.Flow.{Flow}
 use Rattle.policy.specs.Granted.{flow_of, covers, holds, admits, Side, side_in, sound_side, granted, passes, reversed}
-use Rattle.policy.specs.Parts.{flow_with, granted_by}
+use Rattle.policy.specs.Parts.{flow_with}
 
 -- ---- flows
 
@@ -43,24 +43,6 @@ pub icmp_6_not_1 : (p : List ℕ) → version_of p ≡ 6 → protocol_of p ≡ 1
 icmp_6_not_1 p v e = sym (is_icmp_6 p v) ∙ rw e
 
 -- ---- the verdict
-
-or_comm : (a b : Bool) → (a || b) ≡ (b || a)
-or_comm true true = refl
-or_comm true false = refl
-or_comm false true = refl
-or_comm false false = refl
-
-or_true : (a : Bool) → (a || true) ≡ true
-or_true true = refl
-or_true false = refl
-
-module _ (s : Side) (near far : Address) (p : ℕ) (icmp : Bool) where
-  pub granted_uncovered : any_of (covers near) s.addresses ≡ false → false ≡ granted_by s near far p icmp
-  granted_uncovered e = rw e
-
-  pub granted_covered : {t : Bool} → any_of (covers near) s.addresses ≡ true → t ≡ any_of (admits far p icmp) s.routes
-      → t ≡ granted_by s near far p icmp
-  granted_covered e q = rw e q
 
 module _ (s r : Side) (f : Flow) where
   pub passes-granted : granted s f.source f.destination f ≡ true → passes s r f ≡ true
@@ -87,7 +69,7 @@ admits-held a p (r ∷ rs) h = go (admits-held a p rs) (holds a r) refl h
   where
     go : (any_of (holds a) rs ≡ true → any_of (admits a p true) rs ≡ true) → (t : Bool) → holds a r ≡ t → (t || any_of (holds a) rs) ≡ true
         → (admits a p true r || any_of (admits a p true) rs) ≡ true
-    go f true e q = rw (e, or_true (eqb r.protocol p), or_true (eqb r.protocol 0))
+    go f true e q = rw (e, or-true (eqb r.protocol p), or-true (eqb r.protocol 0))
     go f false e q = rw e (f q)
 
 module _ (s r : Side) where

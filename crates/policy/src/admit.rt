@@ -1,8 +1,8 @@
 // Route ranges, and the addresses and protocols they let through.
-ghost use Rattle.std.specs.Prelude.{◌≡◌, true, ◌≤◌, length};
+ghost use Rattle.std.specs.Prelude.{◌≡◌, true, ◌≤◌, ◌||◌, eqb, length};
 ghost use Rattle.octets.specs.Scan.{any_of};
 ghost use Rattle.lists.specs.Words.{route_words, ranges_of, sound_routes};
-ghost use Rattle.policy.specs.Granted.{admits};
+ghost use Rattle.policy.specs.Granted.{holds, admits};
 
 use inet::Address;
 use lists::{RouteRange, WORDS_PER_RANGE};
@@ -14,9 +14,10 @@ pub(crate) fn any_admits(w: &[u64], a: Address, protocol: u8, icmp: bool) -> boo
     ensures { result ≡ any_of (admits a protocol icmp) (ranges_of w.now) }
 {
     if a.version == 4 {
-        return any_admits4(w, a, protocol, icmp);
+        any_admits4(w, a, protocol, icmp)
+    } else {
+        any_admits6(w, a, protocol, icmp)
     }
-    any_admits6(w, a, protocol, icmp)
 }
 
 // The same of any other address. The high word of a range's end decides for most ranges, and only where it is that of the address the low one.
@@ -28,26 +29,15 @@ fn any_admits6(w: &[u64], a: Address, protocol: u8, icmp: bool) -> bool
     let n = w[0] as usize;
     let hi = a.hi;
     let lo = a.lo;
-    let mut i: usize = 0;
-    while i < n {
+    for i in 0..n {
         let b = i * WORDS_PER_RANGE;
         let end_hi = w[b + 4];
-        if hi <= end_hi {
-            if hi < end_hi {
-                let r = lists::range_at(w, i);
-                if admits(r, a, protocol, icmp) {
-                    return true;
-                }
-            } else {
-                if lo <= w[b + 5] {
-                    let r = lists::range_at(w, i);
-                    if admits(r, a, protocol, icmp) {
-                        return true;
-                    }
-                }
+        if hi <= end_hi && (hi < end_hi || lo <= w[b + 5]) {
+            let r = lists::range_at(w, i);
+            if admits(r, a, protocol, icmp) {
+                return true;
             }
         }
-        i += 1;
     }
     false
 }
@@ -61,18 +51,14 @@ fn any_admits4(w: &[u64], a: Address, protocol: u8, icmp: bool) -> bool
 {
     let n = w[0] as usize;
     let lo = a.lo;
-    let mut i: usize = 0;
-    while i < n {
+    for i in 0..n {
         let b = i * WORDS_PER_RANGE;
-        if lo <= w[b + 5] {
-            if w[b + 3] <= lo {
-                let r = lists::range_at(w, i);
-                if admits(r, a, protocol, icmp) {
-                    return true;
-                }
+        if lo <= w[b + 5] && w[b + 3] <= lo {
+            let r = lists::range_at(w, i);
+            if admits(r, a, protocol, icmp) {
+                return true;
             }
         }
-        i += 1;
     }
     false
 }
@@ -81,20 +67,20 @@ fn any_admits4(w: &[u64], a: Address, protocol: u8, icmp: bool) -> bool
 fn admits(r: RouteRange, a: Address, protocol: u8, icmp: bool) -> bool
     ensures { result ≡ admits a protocol icmp r }
 {
-    if !octets::at_most(a.hi, a.lo, r.end_hi, r.end_lo) {
-        return false;
-    }
-    if r.version != a.version {
-        return false;
-    }
-    if !octets::at_most(r.start_hi, r.start_lo, a.hi, a.lo) {
-        return false;
-    }
-    if r.protocol == 0 {
-        return true;
-    }
-    if r.protocol == protocol {
-        return true;
-    }
-    icmp
+    holds(r, a) && allows(r.protocol, protocol, icmp)
+}
+
+fn holds(r: RouteRange, a: Address) -> bool
+    ensures { result ≡ holds a r }
+{
+    octets::at_most(a.hi, a.lo, r.end_hi, r.end_lo)
+        && r.version == a.version
+        && octets::at_most(r.start_hi, r.start_lo, a.hi, a.lo)
+}
+
+// Whether a range that names a protocol allows another one, of a packet that is ICMP or not.
+fn allows(named: u8, protocol: u8, icmp: bool) -> bool
+    ensures { result ≡ (eqb named 0 || (eqb named protocol || icmp)) }
+{
+    named == 0 || named == protocol || icmp
 }

@@ -16,13 +16,11 @@ pub(crate) fn any_covers(w: &[u64], a: Address) -> bool
     ensures { result ≡ any_of (covers a) (entries_of w.now) }
 {
     let n = w[0] as usize;
-    let mut i: usize = 0;
-    while i < n {
+    for i in 0..n {
         let e = lists::entry_at(w, i);
         if covers(e, a) {
             return true;
         }
-        i += 1;
     }
     false
 }
@@ -31,38 +29,21 @@ pub(crate) fn any_covers(w: &[u64], a: Address) -> bool
 fn covers(e: AddressEntry, a: Address) -> bool
     ensures { result ≡ covers a e }
 {
-    if e.version != a.version {
-        return false;
-    }
-    if !same_high(beyond(e), e.hi, e.lo, a.hi, a.lo) {
-        return false;
-    }
-    !is_declined(e)
+    e.version == a.version && same_high(beyond(e), e.hi, e.lo, a.hi, a.lo) && !is_declined(e)
 }
 
 // Whether an entry is a declined request.
 fn is_declined(e: AddressEntry) -> bool
     ensures { result ≡ declined e }
 {
-    if e.hi != 0 {
-        return false;
-    }
-    if e.lo != 0 {
-        return false;
-    }
-    e.prefix == width(e.version)
+    e.hi == 0 && e.lo == 0 && e.prefix == width(e.version)
 }
 
 // The number of address bits beyond an entry's prefix; 0 where the prefix is longer than the address.
 fn beyond(e: AddressEntry) -> u64
     ensures { result ≡ beyond e }
 {
-    let bits = width(e.version);
-    if e.prefix < bits {
-        (bits - e.prefix) as u64
-    } else {
-        0
-    }
+    width(e.version).saturating_sub(e.prefix) as u64
 }
 
 // The bits of an address.
@@ -72,18 +53,19 @@ fn width(version: u8) -> u8
     if version == 4 { 32 } else { 128 }
 }
 
-// Whether two numbers of 128 bits agree in all but the k lowest bits.
+// Whether two numbers of 128 bits agree in all but the k lowest bits. They come as words, as in `granted`.
 fn same_high(k: u64, a_hi: u64, a_lo: u64, b_hi: u64, b_lo: u64) -> bool
     ensures { result ≡ eqb (high_bits k (wide a_hi a_lo)) (high_bits k (wide b_hi b_lo)) }
 {
     if k < 64 {
+        // as one `&&` this shifts both low words first, which takes longer where the high ones differ
         if a_hi != b_hi {
             return false;
         }
-        return a_lo >> k == b_lo >> k;
+        a_lo >> k == b_lo >> k
+    } else if k < 128 {
+        a_hi >> (k - 64) == b_hi >> (k - 64)
+    } else {
+        true
     }
-    if k < 128 {
-        return a_hi >> (k - 64) == b_hi >> (k - 64);
-    }
-    true
 }

@@ -49,10 +49,8 @@ pub fn side_sound(side: &[u64]) -> bool
     requires { side_words ≤ length side.now }
     ensures { result ≡ sound_side (side_in side.now) }
 {
-    if !lists::addresses_sound(&side[0..ADDRESS_WORDS]) {
-        return false;
-    }
-    lists::routes_sound(&side[ADDRESS_WORDS..SIDE_WORDS])
+    lists::addresses_sound(&side[0..ADDRESS_WORDS])
+        && lists::routes_sound(&side[ADDRESS_WORDS..SIDE_WORDS])
 }
 
 // Whether a side of at most one address and one range keeps its rules, judged without a loop: true says that it does. False says nothing.
@@ -60,10 +58,8 @@ pub fn short_sound(side: &[u64]) -> bool
     requires { side_words ≤ length side.now }
     ensures { result ≡ true → sound_side (side_in side.now) ≡ true }
 {
-    if !lists::short_addresses(&side[0..ADDRESS_WORDS]) {
-        return false;
-    }
-    lists::short_routes(&side[ADDRESS_WORDS..SIDE_WORDS])
+    lists::short_addresses(&side[0..ADDRESS_WORDS])
+        && lists::short_routes(&side[ADDRESS_WORDS..SIDE_WORDS])
 }
 
 // Whether a side grants a flow or, as a reply, the other one does.
@@ -74,12 +70,9 @@ pub fn passes<'a>(side: &'a [u64], reply: &'a [u64], f: Flow) -> bool
 {
     let s = f.source;
     let d = f.destination;
-    if granted(
-        side, s.version, s.hi, s.lo, d.version, d.hi, d.lo, f.protocol, f.icmp,
-    ) {
-        return true;
-    }
     granted(
+        side, s.version, s.hi, s.lo, d.version, d.hi, d.lo, f.protocol, f.icmp,
+    ) || granted(
         reply, d.version, d.hi, d.lo, s.version, s.hi, s.lo, f.protocol, f.icmp,
     )
 }
@@ -106,18 +99,16 @@ fn granted(
         hi: near_hi,
         lo: near_lo,
     };
-    if !cover::any_covers(&side[0..ADDRESS_WORDS], source) {
-        return false;
-    }
     let destination = Address {
         version: far,
         hi: far_hi,
         lo: far_lo,
     };
-    admit::any_admits(
-        &side[ADDRESS_WORDS..SIDE_WORDS],
-        destination,
-        protocol,
-        icmp,
-    )
+    cover::any_covers(&side[0..ADDRESS_WORDS], source)
+        && admit::any_admits(
+            &side[ADDRESS_WORDS..SIDE_WORDS],
+            destination,
+            protocol,
+            icmp,
+        )
 }

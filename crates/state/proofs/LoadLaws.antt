@@ -1,11 +1,12 @@
 -- What a plan file leaves in the state: its templates, nothing else changes, and a sound state stays sound. Assumes nothing.
+use Rattle.std.proofs.Common.{Result}
 use Prim.Native.Nat.{ℕ, zero, suc, ◌*◌, ◌≤◌}
 use mathlib.Core.Bool.{true}
 use mathlib.Core.Path.{◌≡◌, refl, ap, ◌∙◌}
 use mathlib.Core.List.{List, [], ◌∷◌}
 use native.Mathlib.Omega.{arith}
 use lib.ListN.{length, replicate, length-append, length-replicate}
-use Rattle.answer.specs.declared.Verdict.{Verdict}
+use Rattle.answer.specs.declared.Refusal.{Refusal}
 use Rattle.octets.specs.Big.{Bytes}
 use Rattle.table.specs.Limits.{max_templates}
 use Rattle.table.specs.Templates.{Template}
@@ -34,7 +35,7 @@ unfolding pack_table
 length_table ts o = ap suc (length_words max_templates 0 ts o.each o.few)
 
 -- ---- a plan file
-module _ (file w after : List ℕ) {r : Verdict} (k : LoadsPlan file w r after) (b : Bytes file) (h : state_words ≤ length w) where
+module _ (file w after : List ℕ) {r : Result Unit Refusal} (k : LoadsPlan file w r after) (b : Bytes file) (h : state_words ≤ length w) where
   pub file-loaded : (ts : List Template) (rest : List ℕ) → plan_in file ≡ found ts rest → state_in after ≡ templates_loaded (state_in w) ts
   file-loaded ts rest e =
       ap state_in (k.words ∙ ap (λ (x : Step (List Template)). with_templates x w) e)

@@ -1,7 +1,7 @@
 -- The rules of a state by its parts, what a replaced part does to them, and two ends that mirror each other. Assumes nothing.
 use Prim.Native.Nat.{ℕ}
-use mathlib.Core.Bool.{Bool, true, false, ◌&&◌}
-use mathlib.Core.Path.{◌≡◌, sym}
+use mathlib.Core.Bool.{Bool, true, false, ◌&&◌, and_assoc}
+use mathlib.Core.Path.{◌≡◌, sym, ◌∙◌}
 use mathlib.Core.List.{List}
 use Rattle.answer.proofs.Tests.{and_both}
 use Rattle.inet.specs.Packet.{lowered}
@@ -36,18 +36,17 @@ module _ (s : State) where
   facts_state f = rw (f.received, f.given) f.templates
 
   -- the cases of the judge
-  pub broken-received : sound_side s.received ≡ false → false ≡ sound_state s
-  unfolding sound_state
-  broken-received e = rw e
-
-  pub broken-given : sound_side s.received ≡ true → sound_side s.given ≡ false → false ≡ sound_state s
-  unfolding sound_state
-  broken-given e f = rw (e, f)
-
-  pub by-templates : {t : Bool} → sound_side s.received ≡ true → sound_side s.given ≡ true → t ≡ sound_templates s.templates
+  pub by-templates : {v t : Bool} → v ≡ (sound_side s.received && sound_side s.given) → v ≡ true → t ≡ sound_templates s.templates
       → t ≡ sound_state s
   unfolding sound_state
-  by-templates e f q = rw (e, f) q
+  by-templates e f q =
+      let both = and_both (sound_side s.received) (sound_side s.given) (sym e ∙ f) in
+      rw (both.0, both.1) q
+
+  pub broken-side : {v : Bool} → v ≡ (sound_side s.received && sound_side s.given) → v ≡ false → v ≡ sound_state s
+  unfolding sound_state
+  broken-side e f =
+      f ∙ sym (sym (and_assoc (sound_side s.received) (sound_side s.given) (sound_templates s.templates)) ∙ rw (sym e ∙ f))
 
 -- a sound part in the place of another keeps a state sound
 module _ (s : State) (e : sound_state s ≡ true) where

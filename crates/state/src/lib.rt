@@ -7,7 +7,7 @@ ghost use Rattle.octets.specs.Parts.{with_part};
 ghost use Rattle.state.specs.State.{table_at, store_at, state_words, state_in, sound_state};
 ghost use Rattle.state.specs.Loading.{LoadsPlan};
 
-use answer::Verdict;
+use answer::Refusal;
 use policy::SIDE_WORDS;
 use table::TABLE_WORDS;
 
@@ -29,44 +29,31 @@ pub const STATE_WORDS: usize = STORE_AT + STORE_WORDS;
 
 // Whether a state keeps its rules: those of both sides, and those of its templates. The store is not looked at. Short sides are asked for first: `side_sound` has
 // loops, for which it saves registers whatever the lists are.
+// A slice, and not the array of a state: an array would ask more of callers than the words that are read.
 pub fn state_sound(state: &[u64]) -> bool
     requires { state_words ≤ length state.now }
     ensures { result ≡ sound_state (state_in state.now) }
 {
     let received = &state[RECEIVED_AT..GIVEN_AT];
-    if !policy::short_sound(received) {
-        if !policy::side_sound(received) {
-            return false;
-        }
-    }
     let given = &state[GIVEN_AT..TABLE_AT];
-    if !policy::short_sound(given) {
-        if !policy::side_sound(given) {
-            return false;
-        }
-    }
-    table::table_sound(&state[TABLE_AT..STORE_AT])
+    (policy::short_sound(received) || policy::side_sound(received))
+        && (policy::short_sound(given) || policy::side_sound(given))
+        && table::table_sound(&state[TABLE_AT..STORE_AT])
 }
 
 // Loads the templates of a plan file. A refusal leaves every word; nothing of what the state holds is looked at.
-pub fn load_plan(state: &mut [u64; STATE_WORDS], file: &[u8]) -> Verdict
+pub fn load_plan(state: &mut [u64; STATE_WORDS], file: &[u8]) -> Result<(), Refusal>
     ensures { LoadsPlan file.now state.old result state.new }
 {
     let mut words = [0u64; TABLE_WORDS];
-    let verdict = table::read_plan(file, &mut words);
-    match verdict {
-        Verdict::Go => {
-            put_table(state, &words);
-            Verdict::Go
-        }
-        Verdict::Stop(why) => Verdict::Stop(why),
-    }
+    table::read_plan(file, &mut words)?;
+    put_table(state, &words);
+    Ok(())
 }
 
 // Stores the words of a table.
-fn put_table(state: &mut [u64], words: &[u64; TABLE_WORDS])
-    requires { state_words ≤ length state.old }
+fn put_table(state: &mut [u64; STATE_WORDS], words: &[u64; TABLE_WORDS])
     ensures { state.new ≡ with_part state.old table_at store_at words.now }
 {
-    octets::copy_words(words, &mut state[TABLE_AT..STORE_AT]);
+    state[TABLE_AT..STORE_AT].copy_from_slice(words);
 }

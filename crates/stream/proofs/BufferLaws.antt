@@ -1,4 +1,7 @@
 -- The law of cutting: any pieces of the same bytes give what the whole buffer gives, read from place to place. Assumes nothing.
+use Rattle.std.proofs.Common.{Result, Ok, Err}
+use Rattle.std.proofs.lemmas.Option.{same_Some}
+use Rattle.std.specs.Result.{result_ok}
 use Prim.Native.Nat.{ℕ, ◌+◌, ◌-◌, ◌≤◌}
 use mathlib.Core.Bool.{true}
 use mathlib.Core.Path.{◌≡◌, refl, sym, ap, ◌∙◌}
@@ -7,11 +10,9 @@ use native.Mathlib.Omega.{arith}
 use lib.ListN.{length, take, drop}
 use lib.Seq.{drop-drop}
 use Rattle.answer.specs.declared.Refusal.{Refusal}
-use Rattle.answer.specs.declared.Verdict.{Verdict}
-use Rattle.answer.specs.declared.Verdict.TheVariants.{Go, Stop}
 use Rattle.octets.specs.Big.{Bytes}
 use Rattle.capsule.specs.declared.CapsuleRead.{CapsuleRead}
-use Rattle.capsule.specs.Capsules.{Capsule, kind_of, Reading, refused, capsule, read_capsule}
+use Rattle.capsule.specs.Capsules.{Capsule, kind_of, kind_numbered, Reading, refused, capsule, read_capsule}
 use Rattle.capsule.specs.Results.{found_at, result_at}
 use Rattle.capsule.proofs.ReadFacts.{Taken, is-datagram, is-assign, is-request, is-advertise, is-unknown, read_facts}
 use Rattle.capsule.proofs.ReadLaws.{read-sound}
@@ -19,7 +20,7 @@ use Rattle.state.specs.State.{State, state_words, state_in, sound_state}
 use Rattle.exchange.specs.Reading.{received, asked, requested, reading_in, ReadsCapsule}
 use Rattle.exchange.proofs.ReadLaws.{reading-sound, reading-capsule, refused-only, read-keeps_sound}
 use Rattle.stream.specs.Store.{Store, empty}
-use Rattle.stream.specs.Feeding.{store_in, datagram_bytes}
+use Rattle.stream.specs.Feeding.{store_in, datagram_bytes, call_by}
 use Rattle.stream.specs.Buffer.{Told, before, other, whole}
 use Rattle.stream.specs.Runs.{Ready, seen_as, seen, lists_after, lists_after_all, Calls, no_call, call, Through, ReadsAll, stops, reads, SameAs}
 use Rattle.stream.proofs.WholeLaws.{whole-read}
@@ -47,14 +48,14 @@ length_received w (refused r) h = refl
 length_received w (capsule c start size) h = length_taken w c h
 
 -- the buffer from a place on, capsule by capsule
-pub record AsWhole (w s : List ℕ) (at : ℕ) (handed : List Capsule) (later : List ℕ) (v : Verdict) : Type 0 where
+pub record AsWhole (w s : List ℕ) (at : ℕ) (handed : List Capsule) (later : List ℕ) (v : Result Unit Refusal) : Type 0 where
   pub told : whole (drop at s) ≡ record { handed = handed; refusal = v }
   pub lists : state_in later ≡ lists_after_all (state_in w) handed
 
-module _ {w s : List ℕ} {at : ℕ} {l : List ℕ} {r : CapsuleRead} {after list : List ℕ} (t : ReadsCapsule w s at l r after list) (h : state_words ≤ length w) (g : sound_state (state_in w) ≡ true) where
-  read-stops : (why : Refusal) → r.verdict ≡ Stop why → AsWhole w s at [] after (other why)
+module _ {w s : List ℕ} {at : ℕ} {l : List ℕ} {r : Result CapsuleRead Refusal} {after list : List ℕ} (t : ReadsCapsule w s at l r after list) (h : state_words ≤ length w) (g : sound_state (state_in w) ≡ true) where
+  read-stops : (why : Refusal) → r ≡ Err why → AsWhole w s at [] after (other why)
   read-stops why e =
-      let q = refused-only at (reading_in w s at) why (sym (ap (λ (x : CapsuleRead). x.verdict) t.answer) ∙ e) in
+      let q = refused-only at (reading_in w s at) why (sym t.answer ∙ e) in
       record {
         told = whole-read (drop at s) (refused why) (sym (reading-sound w s at g) ∙ q);
         lists = ap state_in (t.state ∙ ap (received w) q);
@@ -63,12 +64,13 @@ module _ {w s : List ℕ} {at : ℕ} {l : List ℕ} {r : CapsuleRead} {after lis
   read_length : state_words ≤ length after
   read_length = rw (t.state, length_received w (reading_in w s at) h) h
 
+module _ {w s : List ℕ} {at : ℕ} {l : List ℕ} {r : CapsuleRead} {after list : List ℕ} (t : ReadsCapsule w s at l (Ok r) after list) (h : state_words ≤ length w) (g : sound_state (state_in w) ≡ true) where
   module _ (c : Capsule) (start size : ℕ) (q : reading_in w s at ≡ capsule c start size) where
     read : read_capsule (drop at s) ≡ capsule c start size
     read = (reading-capsule w s at c start size q).1
 
     found : r ≡ found_at at (kind_of c) start (size - start)
-    found = t.answer ∙ ap (result_at at) q
+    found = same_Some _ _ (ap result_ok (t.answer ∙ ap (result_at at) q))
 
     next_place : r.next ≡ at + size
     next_place = ap (λ (x : CapsuleRead). x.next) found ∙ (let e = (read_facts (drop at s) c start size read).ends in omega arith)
@@ -80,11 +82,11 @@ module _ {w s : List ℕ} {at : ℕ} {l : List ℕ} {r : CapsuleRead} {after lis
     read-seen =
         let v = take (size - start) (drop (at + start) s) in
         ap (λ (x : CapsuleRead). seen_as x.kind (take x.length (drop x.start s)) list (state_in after)) found
-        ∙ ap (λ (x : List ℕ). seen_as (kind_of c) v x (state_in after)) (t.requested ∙ ap (requested l) q)
-        ∙ ap (seen_as (kind_of c) v (asked l c)) read-lists
+        ∙ ap (λ (x : List ℕ). seen_as (kind_numbered (kind_of c)) v x (state_in after)) (t.requested ∙ ap (requested l) q)
+        ∙ ap (seen_as (kind_numbered (kind_of c)) v (asked l c)) read-lists
         ∙ seen_as_lem c (read-sound (drop at s) c start size read) v l (state_in w) (value-stands s at start size c read)
 
-    read_then : {handed : List Capsule} {later : List ℕ} {v : Verdict} → AsWhole after s r.next handed later v → AsWhole w s at (c ∷ handed) later v
+    read_then : {handed : List Capsule} {later : List ℕ} {v : Result Unit Refusal} → AsWhole after s r.next handed later v → AsWhole w s at (c ∷ handed) later v
     read_then {handed} {later} {v} n =
         record {
           told =
@@ -94,25 +96,25 @@ module _ {w s : List ℕ} {at : ℕ} {l : List ℕ} {r : CapsuleRead} {after lis
           lists = n.lists ∙ ap (λ (x : State). lists_after_all x handed) read-lists;
         }
 
-  read_goes : r.verdict ≡ Go → {handed : List Capsule} {later : List ℕ} {v : Verdict} → AsWhole after s r.next handed later v
+  read_goes : {handed : List Capsule} {later : List ℕ} {v : Result Unit Refusal} → AsWhole after s r.next handed later v
       → AsWhole w s at (seen_as r.kind (take r.length (drop r.start s)) list (state_in after) ∷ handed) later v
-  read_goes e {handed} {later} {v} n = of (reading_in w s at) refl
+  read_goes {handed} {later} {v} n = of (reading_in w s at) refl
     where
       of : (q : Reading) → reading_in w s at ≡ q → AsWhole w s at (seen_as r.kind (take r.length (drop r.start s)) list (state_in after) ∷ handed) later v
       of (refused why) q =
-          let f = ap (λ (x : CapsuleRead). x.verdict) (t.answer ∙ ap (result_at at) q) in
+          let f = t.answer ∙ ap (result_at at) q in
           let y : ◌≡◌ {A = ℕ} 0 1 = cc in absurd (omega arith)
       of (capsule c start size) q = rw (read-seen c start size q) (read_then c start size q n)
 
-pub reads_whole : {w s : List ℕ} {at : ℕ} {handed : List Capsule} {later : List ℕ} {v : Verdict} → ReadsAll w s at handed later v
+pub reads_whole : {w s : List ℕ} {at : ℕ} {handed : List Capsule} {later : List ℕ} {v : Result Unit Refusal} → ReadsAll w s at handed later v
     → state_words ≤ length w → sound_state (state_in w) ≡ true → AsWhole w s at handed later v
-reads_whole (stops {why = why} t e) h g = read-stops t h g why e
-reads_whole (reads t e next) h g = read_goes t h g e (reads_whole next (read_length t h g) (read-keeps_sound t h g))
+reads_whole (stops {why = why} t) h g = read-stops t h g why refl
+reads_whole (reads t next) h g = read_goes t h g (reads_whole next (read_length t h g) (read-keeps_sound t h g))
 
 -- ---- the law
 
 -- from an empty store and the same lists: any calls with room that took all bytes, or were refused, give what the whole buffer gives
-pub cut_anywhere : {w held : List ℕ} {ps : List (List ℕ)} {handed : List Capsule} {later holds rest u s : List ℕ} {read : List Capsule} {left : List ℕ} {v : Verdict}
+pub cut_anywhere : {w held : List ℕ} {ps : List (List ℕ)} {handed : List Capsule} {later holds rest u s : List ℕ} {read : List Capsule} {left : List ℕ} {v : Result Unit Refusal}
     → Calls w held [] ps handed later holds rest → Through later holds rest → ReadsAll u s 0 read left v
     → Ready w held → store_in w held ≡ empty → state_words ≤ length u → state_in u ≡ state_in w → flatten ps ≡ s → Bytes s
     → SameAs handed later holds read left v
@@ -172,14 +174,14 @@ calls_split {w} {held} {left} [] qs {handed} c =
 calls_split {w = w} {held = held} {left = left} (p ∷ ps) qs {later = later} {holds = holds} {rest = rest} (call {r = r} {mid = mid} {now = now} {after = after} {list = list} room x next) =
     let n = calls_split {w = mid} {held = now} ps qs next in
     record {
-      first = seen r.call after list (state_in mid) ++ n.first;
+      first = seen (call_by r) after list (state_in mid) ++ n.first;
       second = n.second;
       mid = n.mid;
       now = n.now;
       over = n.over;
       front = call room x n.front;
       behind = n.behind;
-      joined = ap (λ (cs : List Capsule). seen r.call after list (state_in mid) ++ cs) n.joined ∙ sym (append_assoc (seen r.call after list (state_in mid)) n.first n.second);
+      joined = ap (λ (cs : List Capsule). seen (call_by r) after list (state_in mid) ++ cs) n.joined ∙ sym (append_assoc (seen (call_by r) after list (state_in mid)) n.first n.second);
     }
 
 flatten_append : (ps qs : List (List ℕ)) → flatten (ps ++ qs) ≡ flatten ps ++ flatten qs

@@ -1,4 +1,5 @@
 -- One call on a live store that skips nothing, by what type and length say of the bytes kept and given. Assumes nothing.
+use Rattle.std.proofs.Common.{Option, Some, None, Ok, Err}
 use Prim.Native.Nat.{ℕ, zero, suc, ◌+◌, ◌-◌, ◌≤◌, ◌<◌}
 use mathlib.Core.Bool.{true, false}
 use mathlib.Core.Path.{◌≡◌, refl, sym, ap, ◌∙◌}
@@ -11,14 +12,12 @@ use lib.ListN.{length, take, drop, length-take, length-drop, length-append, take
 use lib.Seq.{take_at}
 use Rattle.answer.specs.declared.Refusal.{Refusal}
 use Rattle.answer.specs.declared.Refusal.TheVariants.{Incomplete, TooLong}
-use Rattle.answer.specs.declared.Verdict.TheVariants.{Go}
 use Rattle.answer.specs.Number.{number_of, number_of_injective}
 use Rattle.answer.proofs.Tests.{order}
 use Rattle.varint.specs.Numbers.{limit, read_number}
-use Rattle.capsule.specs.declared.FrameRead.TheVariants as F
 use Rattle.capsule.specs.declared.Head.{Head}
-use Rattle.capsule.specs.Heads.{head_size, head_of, HeadRead}
-use Rattle.capsule.specs.Capsules.{max_value, Capsule, datagram, unknown, Reading, refused, capsule, read_value, in_frame, frame_of, read_capsule}
+use Rattle.capsule.specs.Heads.{head, head_size, head_of, HeadRead}
+use Rattle.capsule.specs.Capsules.{frame_read, max_value, Capsule, datagram, unknown, Reading, refused, capsule, read_value, in_frame, frame_of, read_capsule}
 use Rattle.capsule.proofs.FrameCases as Frame
 use Rattle.capsule.proofs.HeadLaws.{frame-known, frame-cut}
 use Rattle.capsule.proofs.FrontLaws.{framed-front, other-waits, other-ends}
@@ -31,11 +30,11 @@ use Rattle.stream.proofs.StepLaws.{store_open}
 
 -- ---- bytes kept, of which type and length are cut, or say more
 module _ (s : List ℕ) where
-  cut-skip : head_of s ≡ Head.Cut → to_skip s ≡ 0
+  cut-skip : head_of s ≡ None → to_skip s ≡ 0
   unfolding to_skip
   cut-skip e = ap (skip_behind s) e
 
-  module _ (kind start len : ℕ) (e : head_of s ≡ Head.Known kind start len) where
+  module _ (kind start len : ℕ) (e : head_of s ≡ Some (head kind start len)) where
     known-skip : kind ≤ 3 → to_skip s ≡ 0
     unfolding to_skip
     known-skip h = ap (skip_behind s) e ∙ rw (le-ltb 3 kind h)
@@ -44,30 +43,30 @@ module _ (s : List ℕ) where
     unfolding to_skip
     other-skip h = ap (skip_behind s) e ∙ rw (lt-ltb 3 kind h)
 
-    lacks-frame : Frame.Short kind len → length s < start + len → frame_of s ≡ F.Refused Incomplete
+    lacks-frame : Frame.Short kind len → length s < start + len → frame_of s ≡ Err Incomplete
     lacks-frame w h = frame-known s kind start len e ∙ sym (Frame.incomplete s kind start len w h)
 
-    long-frame : kind ≤ 3 → max_value < len → frame_of s ≡ F.Refused TooLong
+    long-frame : kind ≤ 3 → max_value < len → frame_of s ≡ Err TooLong
     long-frame a b = frame-known s kind start len e ∙ sym (Frame.too_long s kind start len a b)
 
-    pub whole-frame : Frame.Short kind len → start + len ≤ length s → frame_of s ≡ F.Value kind start len
+    pub whole-frame : Frame.Short kind len → start + len ≤ length s → frame_of s ≡ Ok (frame_read kind start len)
     whole-frame w h = frame-known s kind start len e ∙ sym (Frame.whole s kind start len w h)
 
 -- no bytes say nothing
-none-known : (s : List ℕ) (kind start len : ℕ) → length s ≡ 0 → head_of s ≡ Head.Known kind start len → ⊥
+none-known : (s : List ℕ) (kind start len : ℕ) → length s ≡ 0 → head_of s ≡ Some (head kind start len) → ⊥
 unfolding head_of read_number
 none-known [] kind start len h e = let y : ◌≡◌ {A = ℕ} 0 1 = cc in omega arith
 none-known (b ∷ s) kind start len h e = omega arith
 
 -- ---- the rules of what is kept
-module _ (s : List ℕ) {h : Head} (hr : HeadRead s h) where
-  pub open_cut : h ≡ Head.Cut → true ≡ is_open s
+module _ (s : List ℕ) {h : Option Head} (hr : HeadRead s h) where
+  pub open_cut : h ≡ None → true ≡ is_open s
   open_cut e =
-      let p : head_of s ≡ Head.Cut = sym hr.reading ∙ e in
+      let p : head_of s ≡ None = sym hr.reading ∙ e in
       sym (rw (frame-cut s p, cut-skip s p))
 
-  module _ {kind start len : ℕ} (e : h ≡ Head.Known kind start len) where
-    said : head_of s ≡ Head.Known kind start len
+  module _ {kind start len : ℕ} (e : h ≡ Some (head kind start len)) where
+    said : head_of s ≡ Some (head kind start len)
     said = sym hr.reading ∙ e
 
     pub open_bounds : (start ≤ head_size) × (start ≤ length s) × (len < limit)
@@ -105,7 +104,7 @@ waiting-some : (s : List ℕ) → (length s ≡ 0 → ⊥) → wait ≡ waiting 
 waiting-some [] e = absurd (e refl)
 waiting-some (b ∷ s) e = refl
 
-keeping-some : (s : List ℕ) (n : ℕ) → 0 < n → keeping s n ≡ record { kept = []; skip = n; stopped = Go }
+keeping-some : (s : List ℕ) (n : ℕ) → 0 < n → keeping s n ≡ record { kept = []; skip = n; stopped = (Ok tt) }
 keeping-some s zero h = absurd (omega arith)
 keeping-some s (suc n) h = refl
 
@@ -113,7 +112,7 @@ keeping-some s (suc n) h = refl
 pub record Idle (k : Store) : Type 0 where
   pub sound : sound_store k ≡ true
   pub skip : k.skip ≡ 0
-  pub stopped : k.stopped ≡ Go
+  pub stopped : k.stopped ≡ Ok tt
 
 module _ {k : Store} (i : Idle k) where
   pub fed-reading : (t : List ℕ) (r : Reading) → read_capsule (k.kept ++ t) ≡ r → feed_store k t ≡ on_reading k (length t) (k.kept ++ t) r
@@ -124,13 +123,13 @@ module _ {k : Store} (i : Idle k) where
     abbrev s : List ℕ
     s = k.kept ++ t
 
-    keeps : frame_of s ≡ F.Refused Incomplete → to_skip s ≡ 0 → feed_store k t ≡ keeps_all k.kept t
+    keeps : frame_of s ≡ Err Incomplete → to_skip s ≡ 0 → feed_store k t ≡ keeps_all k.kept t
     keeps e z = fed-reading t (refused Incomplete) (frame-waits s e) ∙ rw z
 
-    pub fed-cut : head_of s ≡ Head.Cut → feed_store k t ≡ keeps_all k.kept t
+    pub fed-cut : head_of s ≡ None → feed_store k t ≡ keeps_all k.kept t
     fed-cut e = keeps (frame-cut s e) (cut-skip s e)
 
-    module _ (kind start len : ℕ) (e : head_of s ≡ Head.Known kind start len) where
+    module _ (kind start len : ℕ) (e : head_of s ≡ Some (head kind start len)) where
       -- the capsule ends behind what is kept
       pub ends-after : Frame.Short kind len → length k.kept < start + len
       ends-after w =
@@ -167,7 +166,7 @@ module _ {k : Store} (i : Idle k) where
         where
           waits-skip : length t < start + len - length k.kept
               → on_reading k (length t) s (refused Incomplete)
-              ≡ record { said = wait; taken = length t; store = record { kept = []; skip = start + len - length k.kept - length t; stopped = Go } }
+              ≡ record { said = wait; taken = length t; store = record { kept = []; skip = start + len - length k.kept - length t; stopped = (Ok tt) } }
           waits-skip q =
               let l = length-append k.kept t in
               let z : to_skip s ≡ start + len - length k.kept - length t = other-skip s kind start len e h ∙ omega arith in
@@ -189,7 +188,7 @@ module _ {k : Store} (i : Idle k) where
         reaches = omega (arith, length-append k.kept t)
 
         -- its own bytes say the same
-        pub front-frame : frame_of u ≡ F.Value kind start len
+        pub front-frame : frame_of u ≡ Ok (frame_read kind start len)
         front-frame =
             Frame.framed-frame
             (framed-front u (drop n t) kind start len (rw (sym front) at (Frame.frame_facts s kind start len (whole-frame s kind start len e w reaches))) (omega (arith, front_length)))

@@ -1,4 +1,5 @@
 -- What the code does with the lent memory is what the call says, case by case. Assumes nothing.
+use Rattle.std.proofs.Common.{Option, Some, None, Result, Ok, Err}
 use Prim.Native.Nat.{ℕ, ◌+◌, ◌-◌, ◌≤◌, ◌<◌, min}
 use mathlib.Core.Bool.{Bool, true, false}
 use mathlib.Core.Path.{◌≡◌, refl, sym, ap, ◌∙◌}
@@ -10,9 +11,8 @@ use lib.Dec.{ltb}
 use lib.ListN.{length, get_or, set, take, drop, length-take, length-append, take-append-drop, drop_of_length-le}
 use lib.Seq.{length-take-le, drop-append-le, drop-append-add}
 use Rattle.answer.specs.declared.Refusal.{Refusal}
+use Rattle.capsule.specs.declared.Kind.TheVariants.{Datagram, Other}
 use Rattle.answer.specs.declared.Refusal.TheVariants.{TooLong}
-use Rattle.answer.specs.declared.Verdict.{Verdict}
-use Rattle.answer.specs.declared.Verdict.TheVariants.{Go, Stop}
 use Rattle.answer.specs.Choice.{pick}
 use Rattle.answer.specs.Number.{number_of}
 use Rattle.answer.proofs.Tests.{order}
@@ -22,20 +22,19 @@ use Rattle.output.proofs.Placing.{put_front}
 use Rattle.varint.specs.Numbers.{limit}
 use Rattle.capsule.specs.declared.CapsuleRead.{CapsuleRead}
 use Rattle.capsule.specs.declared.Head.{Head}
-use Rattle.capsule.specs.Heads.{head_size, head_of, HeadRead}
-use Rattle.capsule.specs.Capsules.{max_value, Capsule, unknown, kind_of, Reading, refused, capsule, read_capsule}
+use Rattle.capsule.specs.Heads.{head, head_size, head_of, HeadRead}
+use Rattle.capsule.specs.Capsules.{max_value, Capsule, unknown, kind_of, kind_numbered, Reading, refused, capsule, read_capsule}
 use Rattle.capsule.specs.Results.{result_at}
 use Rattle.capsule.proofs.FrameCases.{Short}
 use Rattle.capsule.proofs.HeadLaws.{head_append, head_more}
 use Rattle.capsule.proofs.ReadFacts.{Taken, is-datagram, is-assign, is-request, is-advertise, is-unknown}
 use Rattle.state.specs.State.{store_at, state_words}
 use Rattle.exchange.specs.Reading.{taken, asked, received, requested, TakesCapsule}
-use Rattle.stream.specs.declared.feeding.Call.{Call}
-use Rattle.stream.specs.declared.feeding.Call.TheVariants.{Handed, Between, Wait}
+use Rattle.stream.specs.declared.feeding.Call.TheVariants.{Between, Wait}
 use Rattle.stream.specs.declared.feeding.Piece.{Piece}
 use Rattle.stream.specs.Store.{out, wait, Fed, waiting, empty, remembers, on_skip}
-use Rattle.stream.specs.Feeding.{kept_size, remembered_by, store_in, fed, datagram_bytes, on_out, state_fed, call_of}
-use Rattle.stream.specs.Inner.{refusing, Refuses, HandsOut, Settles, Moves, Keeps, Lists, Goes, keeps_all, Live, Collecting, OneList}
+use Rattle.stream.specs.Feeding.{kept_size, remembered_by, store_in, fed, datagram_bytes, on_out, state_fed, call_of, piece_with}
+use Rattle.stream.specs.Inner.{handing, Refuses, HandsOut, Settles, Moves, Keeps, Lists, Goes, keeps_all, Live, Collecting, OneList}
 use Rattle.stream.proofs.WordLaws.{words-kept, words-skip, words-stopped, taken-stopped}
 use Rattle.stream.proofs.FeedLaws.{length_taken}
 use Rattle.stream.proofs.CaseLaws.{Idle, fed-reading, fed-cut, ends-after, fed-lacks, fed-long, fed-other, front-list, fed-front, fed-datagram, list-whole, list-ends}
@@ -43,23 +42,23 @@ use Rattle.stream.proofs.CaseLaws.{Idle, fed-reading, fed-cut, ends-after, fed-l
 -- ---- type and length from the first bytes
 
 -- no bytes are kept
-pub head-none : (kept bytes : List ℕ) {r : Head} → length kept ≡ 0 → HeadRead bytes r → HeadRead (kept ++ bytes) r
+pub head-none : (kept bytes : List ℕ) {r : Option Head} → length kept ≡ 0 → HeadRead bytes r → HeadRead (kept ++ bytes) r
 head-none [] bytes e h = h
 head-none (b ∷ kept) bytes e h = absurd (omega arith)
 
 -- type and length are among them
-pub head-kept : (kept bytes : List ℕ) {kind start size : ℕ} {r : Head} → r ≡ Head.Known kind start size → HeadRead kept r → HeadRead (kept ++ bytes) r
+pub head-kept : (kept bytes : List ℕ) {kind start size : ℕ} {r : Option Head} → r ≡ Some (head kind start size) → HeadRead kept r → HeadRead (kept ++ bytes) r
 head-kept kept bytes {kind} {start} {size} e h =
     rw e
-    (let k : HeadRead kept (Head.Known kind start size) = rw e at h in
+    (let k : HeadRead kept (Some (head kind start size)) = rw e at h in
     record {
       reading = sym (head_append kept bytes kind start size (sym k.reading));
       within = (k.within.0, omega (arith, k.within.1, length-append kept bytes), k.within.2);
     })
 
 -- or cut, and then few
-pub head_few : (kept : List ℕ) {r : Head} → r ≡ Head.Cut → HeadRead kept r → length kept ≤ head_size
-head_few kept e h = let k : HeadRead kept Head.Cut = rw e at h in omega (arith, k.within)
+pub head_few : (kept : List ℕ) {r : Option Head} → r ≡ None → HeadRead kept r → length kept ≤ head_size
+head_few kept e h = let k : HeadRead kept None = rw e at h in omega (arith, k.within)
 
 -- few are kept: with the first bytes given, `head_size` in all where there are so many
 module _ (kept bytes : List ℕ) (n : ℕ) (few : length kept ≤ head_size) (e : n ≡ min (length bytes) (head_size - length kept)) where
@@ -69,7 +68,7 @@ module _ (kept bytes : List ℕ) (n : ℕ) (few : length kept ≤ head_size) (e 
   pub front-size : {space after : List ℕ} {m : ℕ} → Put (kept ++ take n bytes) 0 space m after → m ≤ head_size
   front-size p = omega (arith, front_fits, p.place, length-append kept (take n bytes))
 
-  pub head-joined : (r : Head) → HeadRead (kept ++ take n bytes) r → HeadRead (kept ++ bytes) r
+  pub head-joined : (r : Option Head) → HeadRead (kept ++ take n bytes) r → HeadRead (kept ++ bytes) r
   head-joined r h =
       let z : (kept ++ take n bytes) ++ drop n bytes ≡ kept ++ bytes =
       append_assoc kept (take n bytes) (drop n bytes) ∙ ap (λ (x : List ℕ). kept ++ x) (take-append-drop n bytes) in
@@ -94,11 +93,11 @@ waiting-out : {A : Type 0} (f : Capsule → A) (a : A) (s : List ℕ) → on_out
 waiting-out f a [] = refl
 waiting-out f a (b ∷ s) = refl
 
-waiting_none : (s : List ℕ) → length s ≡ 0 → Between ≡ call_of (waiting s)
+waiting_none : (s : List ℕ) → length s ≡ 0 → Ok Between ≡ call_of (waiting s)
 waiting_none [] e = refl
 waiting_none (b ∷ s) e = absurd (omega arith)
 
-waiting-some : (s : List ℕ) → (length s ≡ 0 → ⊥) → Wait ≡ call_of (waiting s)
+waiting-some : (s : List ℕ) → (length s ≡ 0 → ⊥) → Ok Wait ≡ call_of (waiting s)
 waiting-some [] e = absurd (e refl)
 waiting-some (b ∷ s) e = refl
 
@@ -127,26 +126,26 @@ module _ {w held t holds : List ℕ} {n : ℕ} (v : Live w) (fits : get_or w sto
       sym (take-append-drop n holds) ∙ ap (λ (l : List ℕ). l ++ drop n holds) p.front ∙ ap (λ (l : List ℕ). s ++ l) p.rest
       ∙ ap (λ (m : ℕ). s ++ drop m held) (sym long)
 
-  pub keeps-none : n ≡ 0 → Keeps (keeps_all (take (get_or w store_at 0) held) t) w held (record { call = Between; taken = 0 }) later holds
+  pub keeps-none : n ≡ 0 → Keeps (keeps_all (take (get_or w store_at 0) held) t) w held (Ok (record { call = Between; taken = 0 })) later holds
   keeps-none z =
       let e : 0 ≡ length t = omega (arith, p.place) in
       record {
         moves =
             record {
               answer =
-                  ap (λ (c : Call). record { call = c; taken = 0 }) (waiting_none s (long ∙ z))
-                  ∙ ap (λ (m : ℕ). record { call = call_of (waiting s); taken = m }) e;
+                  ap (piece_with 0) (waiting_none s (long ∙ z))
+                  ∙ ap (λ (m : ℕ). piece_with m (call_of (waiting s))) e;
               state = state-kept;
             };
         bytes = bytes-kept;
       }
 
-  pub keeps-some : (n ≡ 0 → ⊥) → Keeps (keeps_all (take (get_or w store_at 0) held) t) w held (record { call = Wait; taken = length t }) later holds
+  pub keeps-some : (n ≡ 0 → ⊥) → Keeps (keeps_all (take (get_or w store_at 0) held) t) w held (Ok (record { call = Wait; taken = length t })) later holds
   keeps-some z =
       record {
         moves =
             record {
-              answer = ap (λ (c : Call). record { call = c; taken = length t }) (waiting-some s (λ q. z (sym long ∙ q)));
+              answer = ap (piece_with (length t)) (waiting-some s (λ q. z (sym long ∙ q)));
               state = state-kept;
             };
         bytes = bytes-kept;
@@ -154,19 +153,19 @@ module _ {w held t holds : List ℕ} {n : ℕ} (v : Live w) (fits : get_or w sto
 
 -- a capsule is skipped
 module _ {w : List ℕ} (l : length w ≡ state_words) (live : get_or w (store_at + 2) 0 ≡ 0) {n m : ℕ} where
-  pub skips-on : m < n → Moves (on_skip n m) w (record { call = Wait; taken = m }) (set (set w store_at 0) (store_at + 1) (n - m))
+  pub skips-on : m < n → Moves (on_skip n m) w (Ok (record { call = Wait; taken = m })) (set (set w store_at 0) (store_at + 1) (n - m))
   skips-on h = rw (lt-ltb m n h) (record { answer = refl; state = words-skip w l live (n - m) })
 
-  pub skips-done : n ≤ m → {r : Piece} {later : List ℕ} → HandsOut (kind_of unknown) 0 n w r later → Moves (on_skip n m) w r later
+  pub skips-done : n ≤ m → {r : Result Piece Refusal} {later : List ℕ} → HandsOut Other 0 n w r later → Moves (on_skip n m) w r later
   skips-done h o = rw (le-ltb m n h) (record { answer = o.answer; state = o.state ∙ words-skip w l live 0 })
 
 -- by whether the bytes given are fewer
 abbrev pub skips_if : Bool → ℕ → ℕ → Fed
 skips_if b n m =
-    pick b (record { said = wait; taken = m; store = record { kept = []; skip = n - m; stopped = Go } })
+    pick b (record { said = wait; taken = m; store = record { kept = []; skip = n - m; stopped = (Ok tt) } })
     (record { said = out unknown; taken = n; store = empty })
 
-pub goes-skip : {w held before l later : List ℕ} {r : Piece} (n m : ℕ) → Moves (on_skip n m) w r later → Goes (on_skip n m) w held before l r later held before l
+pub goes-skip : {w held before l later : List ℕ} {r : Result Piece Refusal} (n m : ℕ) → Moves (on_skip n m) w r later → Goes (on_skip n m) w held before l r later held before l
 goes-skip {w} {held} {before} {l} {later} {r} n m f = of (ltb m n) f
   where
     of : (b : Bool) → Moves (skips_if b n m) w r later → Goes (skips_if b n m) w held before l r later held before l
@@ -174,22 +173,15 @@ goes-skip {w} {held} {before} {l} {later} {r} n m f = of (ltb m n) f
     of false g = record { moves = g; bytes = refl; output = refl; requested = refl }
 
 -- a refusal is remembered
-pub refused-by : {why : Refusal} {w : List ℕ} {n : ℕ} {r : Piece} → n ≡ number_of why → r ≡ refusing why → Refuses why w r (set w (store_at + 2) n)
+pub refused-by : {why : Refusal} {w : List ℕ} {n : ℕ} {r : Result Piece Refusal} → n ≡ number_of why → r ≡ Err why → Refuses why w r (set w (store_at + 2) n)
 refused-by {why} {w} e q = record { answer = q; state = ap (set w (store_at + 2)) e }
-
--- a list was read
-pub settles_go : {v : Verdict} {kind n : ℕ} {w later : List ℕ} {r : Piece} → v ≡ Go → HandsOut kind 0 n w r later → Settles v kind n w r later
-settles_go e h = rw e h
-
-pub settles_stop : {v : Verdict} {why : Refusal} (kind n : ℕ) {w later : List ℕ} {r : Piece} → v ≡ Stop why → Refuses why w r later → Settles v kind n w r later
-settles_stop kind n e h = rw e h
 
 -- a list is read from a copy of the kept bytes and those given
 module _ (kept bytes : List ℕ) {n : ℕ} {space after : List ℕ} (p : Put (kept ++ bytes) 0 space n after) where
   pub copy_size : length kept + length bytes ≤ kept_size → n ≤ kept_size
   copy_size h = omega (arith, p.place, length-append kept bytes)
 
-  pub copy_taken : {w l later list : List ℕ} {r : CapsuleRead} → TakesCapsule w (take n after) 0 l r later list → TakesCapsule w (kept ++ bytes) 0 l r later list
+  pub copy_taken : {w l later list : List ℕ} {r : Result CapsuleRead Refusal} → TakesCapsule w (take n after) 0 l r later list → TakesCapsule w (kept ++ bytes) 0 l r later list
   copy_taken t = rw p.front at t
 
 -- nothing is kept
@@ -210,7 +202,7 @@ module _ {w held : List ℕ} (rd : Collecting w held) where
   kept_same : held ≡ kept ++ drop (length kept) held
   kept_same = same-front (get_or w store_at 0) held (omega (arith, rd.within, rd.room))
 
-  refuses-moves : {why : Refusal} {r : Piece} {later : List ℕ} → Refuses why w r later → Moves (remembers (store_in w held) why) w r later
+  refuses-moves : {why : Refusal} {r : Result Piece Refusal} {later : List ℕ} → Refuses why w r later → Moves (remembers (store_in w held) why) w r later
   refuses-moves {why} f =
       record { answer = f.answer; state = f.state ∙ words-stopped w rd.live.size why (length kept) (get_or w (store_at + 1) 0) (sym kept-size) refl }
 
@@ -238,8 +230,8 @@ module _ {w held : List ℕ} (rd : Collecting w held) where
         of (refused why) e = rw (list-refused why e) (refl, kept_same)
         of (capsule c a z) e = rw (list_read c a z e) (no_bytes c (list-ends x c a z e).1, refl)
 
-    list_finished : (u l : List ℕ) {read : CapsuleRead} {after list later : List ℕ} {r : Piece} → u ≡ kept ++ bytes → TakesCapsule w u 0 l read after list
-        → Settles read.verdict read.kind (length bytes) after r later → Lists (fed w held bytes) w l r later list
+    list_finished : (u l : List ℕ) {read : Result CapsuleRead Refusal} {after list later : List ℕ} {r : Result Piece Refusal} → u ≡ kept ++ bytes → TakesCapsule w u 0 l read after list
+        → Settles read (length bytes) after r later → Lists (fed w held bytes) w l r later list
     list_finished u l {read} {after} {list} {later} {r} eu t f = of (read_capsule (kept ++ bytes)) refl
       where
         of : (q : Reading) → read_capsule (kept ++ bytes) ≡ q → Lists (fed w held bytes) w l r later list
@@ -250,8 +242,8 @@ module _ {w held : List ℕ} (rd : Collecting w held) where
             rw (list-refused why e) (record { moves = refuses-moves h; requested = t.requested ∙ ap (requested l) q })
         of (capsule c a z) e =
             let q : read_capsule u ≡ capsule c a z = ap read_capsule eu ∙ e in
-            let g : HandsOut (kind_of c) 0 (length bytes) after r later = rw (t.answer ∙ ap (result_at 0) q) at f in
-            let h : HandsOut (kind_of c) 0 (length bytes) (taken w c) r later = rw (t.state ∙ ap (received w) q) at g in
+            let g : HandsOut (kind_numbered (kind_of c)) 0 (length bytes) after r later = rw (t.answer ∙ ap (result_at 0) q) at f in
+            let h : HandsOut (kind_numbered (kind_of c)) 0 (length bytes) (taken w c) r later = rw (t.state ∙ ap (received w) q) at g in
             let p = list-ends x c a z e in
             let m : length bytes ≡ z - length kept = omega (arith, p.0, length-append kept bytes) in
             rw (list_read c a z e)
@@ -259,8 +251,8 @@ module _ {w held : List ℕ} (rd : Collecting w held) where
               moves =
                   record {
                     answer =
-                        h.answer ∙ ap (λ (i : ℕ). record { call = Handed (kind_of c) i; taken = length bytes }) (ap length (sym (no_bytes c p.1)))
-                        ∙ ap (λ (i : ℕ). record { call = Handed (kind_of c) (length (datagram_bytes c)); taken = i }) m;
+                        h.answer ∙ ap (λ (i : ℕ). handing (kind_numbered (kind_of c)) i (length bytes)) (ap length (sym (no_bytes c p.1)))
+                        ∙ ap (handing (kind_numbered (kind_of c)) (length (datagram_bytes c))) m;
                     state =
                         h.state ∙ words-skip (taken w c) (length_taken w c (omega (arith, rd.live.size)) ∙ rd.live.size) (taken-stopped w rd.live.size c ∙ rd.live.stopped) 0;
                   };
@@ -268,11 +260,11 @@ module _ {w held : List ℕ} (rd : Collecting w held) where
             })
 
   -- ---- the cases of a call
-  module _ (t : List ℕ) {h : Head} (hr : HeadRead (kept ++ t) h) where
-    abbrev Called : List ℕ → List ℕ → Piece → List ℕ → List ℕ → List ℕ → List ℕ → Type 0
+  module _ (t : List ℕ) {h : Option Head} (hr : HeadRead (kept ++ t) h) where
+    abbrev Called : List ℕ → List ℕ → Result Piece Refusal → List ℕ → List ℕ → List ℕ → List ℕ → Type 0
     Called before l r later holds after list = Goes (fed w held t) w held before l r later holds after list
 
-    goes_kept : {before l : List ℕ} {r : Piece} {later holds : List ℕ} → fed w held t ≡ keeps_all kept t → Keeps (keeps_all kept t) w held r later holds → Called before l r later holds before l
+    goes_kept : {before l : List ℕ} {r : Result Piece Refusal} {later holds : List ℕ} → fed w held t ≡ keeps_all kept t → Keeps (keeps_all kept t) w held r later holds → Called before l r later holds before l
     goes_kept {before} {l} e k =
         rw e
         (record {
@@ -283,14 +275,14 @@ module _ {w held : List ℕ} (rd : Collecting w held) where
         })
 
     -- type and length are cut
-    pub cut_fits : h ≡ Head.Cut → get_or w store_at 0 + length t ≤ length held
+    pub cut_fits : h ≡ None → get_or w store_at 0 + length t ≤ length held
     cut_fits e = let b = rw e at hr.within in omega (arith, length-append kept t, kept-size, rd.room)
 
-    pub cut_keeps : {before l : List ℕ} {r : Piece} {later holds : List ℕ} → h ≡ Head.Cut → Keeps (keeps_all kept t) w held r later holds → Called before l r later holds before l
+    pub cut_keeps : {before l : List ℕ} {r : Result Piece Refusal} {later holds : List ℕ} → h ≡ None → Keeps (keeps_all kept t) w held r later holds → Called before l r later holds before l
     cut_keeps e k = goes_kept (fed-cut idle t (sym hr.reading ∙ e)) k
 
-    module _ {kind start len : ℕ} (e : h ≡ Head.Known kind start len) where
-      front : head_of (kept ++ t) ≡ Head.Known kind start len
+    module _ {kind start len : ℕ} (e : h ≡ Some (head kind start len)) where
+      front : head_of (kept ++ t) ≡ Some (head kind start len)
       front = sym hr.reading ∙ e
 
       pub bounds : (start ≤ head_size) × (start ≤ length (kept ++ t)) × (len < limit)
@@ -299,13 +291,13 @@ module _ {w held : List ℕ} (rd : Collecting w held) where
       pub ends : Short kind len → get_or w store_at 0 < start + len
       ends s = omega (arith, ends-after idle t kind start len front s, kept-size)
 
-      pub goes_other : {before l : List ℕ} {r : Piece} {later : List ℕ} → 3 < kind → (n : ℕ) → n ≡ start + len - get_or w store_at 0 → Moves (on_skip n (length t)) w r later → Called before l r later held before l
+      pub goes_other : {before l : List ℕ} {r : Result Piece Refusal} {later : List ℕ} → 3 < kind → (n : ℕ) → n ≡ start + len - get_or w store_at 0 → Moves (on_skip n (length t)) w r later → Called before l r later held before l
       goes_other a n en f =
           let m : start + len - length kept ≡ n = omega (arith, kept-size) in
           let g : fed w held t ≡ on_skip n (length t) = fed-other idle t kind start len front a ∙ ap (λ (i : ℕ). on_skip i (length t)) m in
           rw g (goes-skip n (length t) f)
 
-      pub goes-long : {before l : List ℕ} {r : Piece} {later : List ℕ} → kind ≤ 3 → max_value < len → Refuses TooLong w r later → Called before l r later held before l
+      pub goes-long : {before l : List ℕ} {r : Result Piece Refusal} {later : List ℕ} → kind ≤ 3 → max_value < len → Refuses TooLong w r later → Called before l r later held before l
       goes-long a b f =
           rw (fed-long idle t kind start len front a b)
           (record { moves = refuses-moves f; bytes = kept_same; output = refl; requested = refl })
@@ -313,7 +305,7 @@ module _ {w held : List ℕ} (rd : Collecting w held) where
       pub lacks-fits : kind ≤ 3 → len ≤ max_value → length t < start + len - get_or w store_at 0 → get_or w store_at 0 + length t ≤ length held
       lacks-fits a b q = omega (arith, bounds.0, rd.room)
 
-      pub goes-lacks : {before l : List ℕ} {r : Piece} {later holds : List ℕ} → kind ≤ 3 → len ≤ max_value → length t < start + len - get_or w store_at 0
+      pub goes-lacks : {before l : List ℕ} {r : Result Piece Refusal} {later holds : List ℕ} → kind ≤ 3 → len ≤ max_value → length t < start + len - get_or w store_at 0
           → Keeps (keeps_all kept t) w held r later holds → Called before l r later holds before l
       goes-lacks a b q k =
           goes_kept (fed-lacks idle t kind start len front a b (omega (arith, length-append kept t, kept-size))) k
@@ -334,20 +326,20 @@ module _ {w held : List ℕ} (rd : Collecting w held) where
             let p : 0 < kind = ⊎_elim (λ q. q) (λ q. absurd (z (omega arith))) (order 0 kind) in
             front-list idle t kind start len front (inr short) n sum there p a
 
-        goes-list : {before l : List ℕ} {r : Piece} {later list : List ℕ} → (kind ≡ 0 → ⊥) → kind ≤ 3 → Lists (fed w held (take n t)) w l r later list → Called before l r later held before list
+        goes-list : {before l : List ℕ} {r : Result Piece Refusal} {later list : List ℕ} → (kind ≡ 0 → ⊥) → kind ≤ 3 → Lists (fed w held (take n t)) w l r later list → Called before l r later held before list
         goes-list z a f =
             let p = list_leaves (take n t) (whole-list z a) in
             rw (fed-front idle t kind start len front (inr short) n sum there)
             (record { moves = f.moves; bytes = p.1; output = sym (rw p.0); requested = f.requested })
 
         -- read where it lies, or from a copy u
-        pub goes-read : {before u l : List ℕ} {read : CapsuleRead} {after list later : List ℕ} {r : Piece} → (kind ≡ 0 → ⊥) → kind ≤ 3 → u ≡ kept ++ take n t
-            → TakesCapsule w u 0 l read after list → Settles read.verdict read.kind n after r later → Called before l r later held before list
+        pub goes-read : {before u l : List ℕ} {read : Result CapsuleRead Refusal} {after list later : List ℕ} {r : Result Piece Refusal} → (kind ≡ 0 → ⊥) → kind ≤ 3 → u ≡ kept ++ take n t
+            → TakesCapsule w u 0 l read after list → Settles read n after r later → Called before l r later held before list
         goes-read {before} {u} {l} {read} {after} {list} {later} {r} z a eu f g =
-            let q : Settles read.verdict read.kind (length (take n t)) after r later = rw (length-take-le n t there) g in
+            let q : Settles read (length (take n t)) after r later = rw (length-take-le n t there) g in
             goes-list z a (list_finished (take n t) (whole-list z a) u l eu f q)
 
-        pub goes-datagram : {before l : List ℕ} {r : Piece} {later after : List ℕ} {m : ℕ} → kind ≡ 0 → Put (drop start (kept ++ take n t)) 0 before m after → HandsOut 0 m n w r later
+        pub goes-datagram : {before l : List ℕ} {r : Result Piece Refusal} {later after : List ℕ} {m : ℕ} → kind ≡ 0 → Put (drop start (kept ++ take n t)) 0 before m after → HandsOut Datagram m n w r later
             → Called before l r later held after l
         goes-datagram z p f =
             let q = put_front p in
@@ -355,7 +347,7 @@ module _ {w held : List ℕ} (rd : Collecting w held) where
             (record {
               moves =
                   record {
-                    answer = f.answer ∙ ap (λ (i : ℕ). record { call = Handed 0 i; taken = n }) q.0;
+                    answer = f.answer ∙ ap (λ (i : ℕ). handing Datagram i n) q.0;
                     state = f.state ∙ words-skip w rd.live.size rd.live.stopped 0;
                   };
               bytes = refl;

@@ -1,4 +1,5 @@
 -- An empty store: nothing is kept, so the bytes given start the capsule, and each case is that of a store that skips nothing. Assumes nothing.
+use Rattle.std.proofs.Common.{Option, Some, None, Result}
 use Prim.Native.Nat.{ℕ, ◌+◌, ◌-◌, ◌≤◌, ◌<◌}
 use mathlib.Core.Bool.{true, false, ◌&&◌}
 use mathlib.Core.Path.{◌≡◌, refl, sym, ap, ◌∙◌}
@@ -14,9 +15,11 @@ use Rattle.output.specs.Places.{Put}
 use Rattle.output.proofs.Placing.{put_as}
 use Rattle.varint.specs.Numbers.{limit, read_number}
 use Rattle.capsule.specs.declared.Head.{Head}
-use Rattle.capsule.specs.Heads.{head_size, head_of, HeadRead}
+use Rattle.capsule.specs.declared.Kind.TheVariants.{Datagram}
+use Rattle.capsule.specs.Heads.{head, head_size, head_of, HeadRead}
 use Rattle.capsule.specs.Capsules.{max_value}
 use Rattle.state.specs.State.{store_at, state_words}
+use Rattle.answer.specs.declared.Refusal.{Refusal}
 use Rattle.stream.specs.declared.feeding.Piece.{Piece}
 use Rattle.stream.specs.Store.{empty, on_skip, sound_store}
 use Rattle.stream.specs.Feeding.{kept_size, store_in, fed}
@@ -85,36 +88,36 @@ module _ {w : List ℕ} (f : Fresh w) (held : List ℕ) (room : length held ≡ 
       }
 
   -- and has no type and no length
-  pub no-head : HeadRead kept Head.Cut
+  pub no-head : HeadRead kept None
   unfolding head_of read_number
   no-head = rw kept-none record { reading = refl; within = omega arith }
 
   -- ---- the cases of a call
-  module _ (t : List ℕ) {h : Head} (hr : HeadRead t h) where
+  module _ (t : List ℕ) {h : Option Head} (hr : HeadRead t h) where
     pub front : HeadRead (kept ++ t) h
     front = Code.head-none kept t (ap length kept-none) hr
 
-    abbrev Called : List ℕ → List ℕ → Piece → List ℕ → List ℕ → List ℕ → List ℕ → Type 0
+    abbrev Called : List ℕ → List ℕ → Result Piece Refusal → List ℕ → List ℕ → List ℕ → List ℕ → Type 0
     Called before l r later holds after list = Goes (fed w held t) w held before l r later holds after list
 
-    module _ {kind start len : ℕ} (e : h ≡ Head.Known kind start len) where
+    module _ {kind start len : ℕ} (e : h ≡ Some (head kind start len)) where
       pub bounds : (start ≤ head_size) × (start ≤ length t) × (len < limit)
       bounds = rw e at hr.within
 
-      pub first-other : {before l : List ℕ} {r : Piece} {later : List ℕ} → 3 < kind → Moves (on_skip (start + len) (length t)) w r later → Called before l r later held before l
+      pub first-other : {before l : List ℕ} {r : Result Piece Refusal} {later : List ℕ} → 3 < kind → Moves (on_skip (start + len) (length t)) w r later → Called before l r later held before l
       first-other a g = Code.goes_other collecting t front e a (start + len) (omega (arith, f.none)) g
 
       pub lacks-fits : len ≤ max_value → length t < start + len → get_or w store_at 0 + length t ≤ length held
       lacks-fits b q = omega (arith, f.none, bounds.0)
 
-      pub first-lacks : {before l : List ℕ} {r : Piece} {later holds : List ℕ} → kind ≤ 3 → len ≤ max_value → length t < start + len
+      pub first-lacks : {before l : List ℕ} {r : Result Piece Refusal} {later holds : List ℕ} → kind ≤ 3 → len ≤ max_value → length t < start + len
           → Keeps (keeps_all kept t) w held r later holds → Called before l r later holds before l
       first-lacks a b q k = Code.goes-lacks collecting t front e a b (omega (arith, f.none)) k
 
       -- the capsule is all there
       module _ (there : start + len ≤ length t) (short : len ≤ max_value) where
         pub first-datagram : {before l after : List ℕ} {m : ℕ} → kind ≡ 0 → Put (take (start + len - start) (drop start t)) 0 before m after
-            → Called before l (handing 0 m (start + len)) w held after l
+            → Called before l (handing Datagram m (start + len)) w held after l
         first-datagram z p =
             let v : take (start + len - start) (drop start t) ≡ drop start (kept ++ take (start + len) t) =
             value-part t start (start + len) (omega arith) there ∙ ap (drop start) (Code.none_kept held (take (start + len) t) f.none) in

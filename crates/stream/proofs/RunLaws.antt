@@ -9,7 +9,7 @@ use Rattle.octets.specs.Big.{Bytes}
 use Rattle.octets.proofs.BigLaws.{bytes-front, bytes_drop}
 use Rattle.capsule.specs.Capsules.{Capsule}
 use Rattle.state.specs.State.{State, state_in}
-use Rattle.stream.specs.Feeding.{store_in}
+use Rattle.stream.specs.Feeding.{store_in, call_by, taken_by}
 use Rattle.stream.specs.Buffer.{Told, ended, before}
 use Rattle.stream.specs.Runs.{Ready, seen, lists_after, lists_after_all, Calls, no_call, call, Through}
 use Rattle.stream.proofs.StepLaws.{resume, resume-end, resume-stopped}
@@ -48,8 +48,8 @@ unfolding flatten
 calls_follow (no_call {w} {held} {left}) k b = record { same = ap (resume (store_in w held)) (append-nil left); lists = refl; ready = k }
 calls_follow (call {w} {held} {left} {p} {r = r} {mid} {now} {after} {list} {ps} {handed} {later} {holds} {rest} room x next) k b =
     let c = call-follows x k room (first-bytes left p ps b) in
-    let n = calls_follow next c.ready (rest-bytes left p ps r.taken c.within b) in
-    let cs = seen r.call after list (state_in mid) in
+    let n = calls_follow next c.ready (rest-bytes left p ps (taken_by r) c.within b) in
+    let cs = seen (call_by r) after list (state_in mid) in
     record {
       same =
           ap (resume (store_in w held)) (pieces left p ps)

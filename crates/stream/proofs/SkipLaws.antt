@@ -1,4 +1,5 @@
 -- A capsule that is skipped: how many of its bytes are still to come, and what the bytes behind make of it. Assumes nothing.
+use Rattle.std.proofs.Common.{Option, Some, None}
 use Prim.Native.Nat.{ℕ, suc, ◌+◌, ◌-◌, ◌≤◌, ◌<◌}
 use mathlib.Core.Bool.{Bool, true, false}
 use mathlib.Core.Path.{◌≡◌, refl, ap, ◌∙◌}
@@ -12,7 +13,7 @@ use Rattle.answer.specs.Choice.{pick}
 use Rattle.octets.specs.Big.{Bytes}
 use Rattle.varint.specs.Numbers.{limit}
 use Rattle.capsule.specs.declared.Head.{Head}
-use Rattle.capsule.specs.Heads.{head_of, HeadWithin}
+use Rattle.capsule.specs.Heads.{head, head_of, HeadWithin}
 use Rattle.capsule.specs.Capsules.{unknown, refused, capsule, read_capsule}
 use Rattle.capsule.proofs.HeadLaws.{head_append}
 use Rattle.capsule.proofs.FrontLaws.{head-within, other-waits, other-ends}
@@ -23,12 +24,12 @@ pub record Skipping (s : List ℕ) (more : ℕ) : Type 0 where
   pub kind : ℕ
   pub start : ℕ
   pub size : ℕ
-  pub front : head_of s ≡ Head.Known kind start size
+  pub front : head_of s ≡ Some (head kind start size)
   pub other : 3 < kind
   pub sum : start + size ≡ length s + more
 
 module _ (s : List ℕ) (more : ℕ) where
-  tested : (kind start size : ℕ) → head_of s ≡ Head.Known kind start size → (b : Bool) → ltb 3 kind ≡ b
+  tested : (kind start size : ℕ) → head_of s ≡ Some (head kind start size) → (b : Bool) → ltb 3 kind ≡ b
       → pick b (start + size - length s) 0 ≡ suc more → Skipping s (suc more)
   tested kind start size e true t h =
       record { kind = kind; start = start; size = size; front = e; other = ltb-true 3 kind t; sum = omega arith }
@@ -38,12 +39,12 @@ module _ (s : List ℕ) (more : ℕ) where
   unfolding to_skip
   skipping h = of (head_of s) refl h
     where
-      of : (r : Head) → head_of s ≡ r → skip_behind s r ≡ suc more → Skipping s (suc more)
-      of (Head.Known kind start size) e h = tested kind start size e (ltb 3 kind) refl h
-      of Head.Cut e h = absurd (omega arith)
+      of : (r : Option Head) → head_of s ≡ r → skip_behind s r ≡ suc more → Skipping s (suc more)
+      of (Some x) e h = tested x.kind x.start x.length e (ltb 3 x.kind) refl h
+      of None e h = absurd (omega arith)
 
 module _ (s t : List ℕ) (more : ℕ) (k : Skipping s more) where
-  appended : head_of (s ++ t) ≡ Head.Known k.kind k.start k.size
+  appended : head_of (s ++ t) ≡ Some (head k.kind k.start k.size)
   appended = head_append s t k.kind k.start k.size k.front
 
   pub skip-waits : length t < more → read_capsule (s ++ t) ≡ refused Incomplete
@@ -63,6 +64,6 @@ skip_below s h = of (head_of s) (head-within s h)
     picked true n l = l
     picked false n l = omega arith
 
-    of : (r : Head) → HeadWithin s r → skip_behind s r < limit
-    of (Head.Known kind start size) w = picked (ltb 3 kind) (start + size - length s) (omega (arith, w.1, w.2))
-    of Head.Cut w = omega arith
+    of : (r : Option Head) → HeadWithin s r → skip_behind s r < limit
+    of (Some x) w = picked (ltb 3 x.kind) (x.start + x.length - length s) (omega (arith, w.1, w.2))
+    of None w = omega arith

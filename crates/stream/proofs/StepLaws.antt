@@ -1,4 +1,5 @@
 -- One call on a sound store: what was still to come of the bytes is what it hands out and what is still to come after it. Assumes nothing.
+use Rattle.std.proofs.Common.{Result, Ok, Err}
 use Prim.Native.Nat.{ℕ, zero, suc, ◌+◌, ◌-◌, ◌≤◌, ◌<◌}
 use mathlib.Core.Bool.{Bool, true, false, ◌&&◌}
 use mathlib.Core.Path.{◌≡◌, refl, sym, ap, ◌∙◌}
@@ -11,8 +12,6 @@ use lib.ListN.{length, drop, length-append}
 use lib.Seq.{take_all, drop-append-le, drop-append-add, drop-length}
 use Rattle.answer.specs.declared.Refusal.{Refusal}
 use Rattle.answer.specs.declared.Refusal.TheVariants.{Incomplete}
-use Rattle.answer.specs.declared.Verdict.{Verdict}
-use Rattle.answer.specs.declared.Verdict.TheVariants.{Go, Stop}
 use Rattle.answer.specs.Choice.{pick}
 use Rattle.answer.specs.Number.{number_of, number_of_injective}
 use Rattle.answer.proofs.Tests.{order, and_both}
@@ -20,7 +19,6 @@ use Rattle.octets.specs.Big.{Bytes}
 use Rattle.octets.proofs.BigLaws.{bytes_append}
 use Rattle.varint.specs.Numbers.{limit, read_number}
 use Rattle.capsule.specs.declared.FrameRead.{FrameRead}
-use Rattle.capsule.specs.declared.FrameRead.TheVariants as F
 use Rattle.capsule.specs.Heads.{head_of}
 use Rattle.capsule.specs.Capsules.{Capsule, unknown, Reading, refused, capsule, frame_of, read_capsule}
 use Rattle.capsule.specs.Sound.{Sound, sound-unknown}
@@ -37,15 +35,15 @@ use Rattle.stream.proofs.WholeLaws.{whole-read}
 -- ---- what is still to come of the bytes t, given what is kept
 
 abbrev skipping-over : List ℕ → ℕ → Told
-skipping-over t n = pick (ltb (length t) n) (ended Go) (before (unknown ∷ []) (whole (drop n t)))
+skipping-over t n = pick (ltb (length t) n) (ended (Ok tt)) (before (unknown ∷ []) (whole (drop n t)))
 
 abbrev resume_open : List ℕ → List ℕ → ℕ → Told
 resume_open kept t zero = whole (kept ++ t)
 resume_open kept t (suc n) = skipping-over t (suc n)
 
-abbrev resume_store : List ℕ → ℕ → List ℕ → Verdict → Told
-resume_store kept n t Go = resume_open kept t n
-resume_store kept n t (Stop r) = ended (Stop r)
+abbrev resume_store : List ℕ → ℕ → List ℕ → Result Unit Refusal → Told
+resume_store kept n t (Ok _) = resume_open kept t n
+resume_store kept n t (Err r) = ended (Err r)
 
 unfoldable pub resume : Store → List ℕ → Told
 resume k t = resume_store k.kept k.skip t k.stopped
@@ -68,9 +66,9 @@ pub open_empty : Open empty
 unfolding to_skip head_of read_number
 open_empty = record { waits = λ e. nothing-there; keeps = λ e. refl; alone = λ h. refl; below = lit< tt; stop = refl }
 
-lacking-frame : (r : FrameRead) → lacking r ≡ true → r ≡ F.Refused Incomplete
-lacking-frame (F.Value kind start size) e = let y : ◌≡◌ {A = ℕ} 0 1 = cc in absurd (omega arith)
-lacking-frame (F.Refused r) e = ap F.Refused (number_of_injective r Incomplete (eqb-true (number_of r) 1 e))
+lacking-frame : (r : Result FrameRead Refusal) → lacking r ≡ true → r ≡ Err Incomplete
+lacking-frame (Ok _) e = let y : ◌≡◌ {A = ℕ} 0 1 = cc in absurd (omega arith)
+lacking-frame (Err r) e = ap Err (number_of_injective r Incomplete (eqb-true (number_of r) 1 e))
 
 module _ (k : Store) where
   pub store_open : sound_store k ≡ true → Open k
@@ -145,10 +143,10 @@ kept_open s zero z l e = record { waits = λ h. e; keeps = λ h. z; alone = λ h
 kept_open s (suc n) z l e =
     record { waits = λ h. absurd (omega arith); keeps = λ h. absurd (omega arith); alone = λ h. refl; below = l; stop = refl }
 
-skip_open : (n : ℕ) → 0 < n → n < limit → Open (record { kept = []; skip = n; stopped = Go })
+skip_open : (n : ℕ) → 0 < n → n < limit → Open (record { kept = []; skip = n; stopped = (Ok tt) })
 skip_open n h l = record { waits = λ z. absurd (omega arith); keeps = λ z. absurd (omega arith); alone = λ z. refl; below = l; stop = refl }
 
-stop_open : (k : Store) (r : Refusal) → Open k → Faulty r → Open (record { kept = k.kept; skip = k.skip; stopped = Stop r })
+stop_open : (k : Store) (r : Refusal) → Open k → Faulty r → Open (record { kept = k.kept; skip = k.skip; stopped = Err r })
 stop_open k r o f =
     record {
       waits = o.waits;
@@ -173,8 +171,8 @@ pub record Stepped (k : Store) (t : List ℕ) (f : Fed) : Type 0 where
   pub bytes : Bytes f.store.kept
   pub sound : (c : Capsule) → f.said ≡ out c → Sound c
   pub within : f.taken ≤ length t
-  pub moves : 0 < length t → f.store.stopped ≡ Go → 0 < f.taken
-  pub live : f.store.stopped ≡ Go → k.stopped ≡ Go
+  pub moves : 0 < length t → f.store.stopped ≡ Ok tt → 0 < f.taken
+  pub live : f.store.stopped ≡ Ok tt → k.stopped ≡ Ok tt
 
 none-given : (s : List ℕ) → given (waiting s) ≡ []
 none-given [] = refl
@@ -193,7 +191,7 @@ not_incomplete r e h =
     let z : true ≡ false = ap (λ (q : Refusal). eqb (number_of q) 1) (sym w) ∙ e in
     let y : ◌≡◌ {A = ℕ} 0 1 = cc in omega arith
 
-module _ (k : Store) (t : List ℕ) (o : Open k) (live : k.stopped ≡ Go) where
+module _ (k : Store) (t : List ℕ) (o : Open k) (live : k.stopped ≡ Ok tt) where
   -- bytes kept
   module _ (none : k.skip ≡ 0) (bytes : Bytes (k.kept ++ t)) (old : Bytes k.kept) where
     abbrev s : List ℕ
@@ -268,7 +266,7 @@ module _ (k : Store) (t : List ℕ) (o : Open k) (live : k.stopped ≡ Go) where
     resumed-skip u = rw (live, some)
 
     go_on : (j : ℕ) → suc n - length t ≡ suc j → (u : List ℕ)
-        → skipping-over (t ++ u) (suc n) ≡ resume (record { kept = []; skip = suc n - length t; stopped = Go }) (drop (length t) t ++ u)
+        → skipping-over (t ++ u) (suc n) ≡ resume (record { kept = []; skip = suc n - length t; stopped = (Ok tt) }) (drop (length t) t ++ u)
     unfolding resume
     go_on j e u =
         let d : drop (length t) t ++ u ≡ u = ap (λ (x : List ℕ). x ++ u) (drop-length t) in
@@ -281,7 +279,7 @@ module _ (k : Store) (t : List ℕ) (o : Open k) (live : k.stopped ≡ Go) where
         (order (length u) (suc j)))
 
     on-skip : (b : Bool) → ltb (length t) (suc n) ≡ b
-        → Stepped k t (pick b (record { said = wait; taken = length t; store = record { kept = []; skip = suc n - length t; stopped = Go } }) (record { said = out unknown; taken = suc n; store = empty }))
+        → Stepped k t (pick b (record { said = wait; taken = length t; store = record { kept = []; skip = suc n - length t; stopped = (Ok tt) } }) (record { said = out unknown; taken = suc n; store = empty }))
     unfolding resume
     on-skip true q =
         let l = ltb-true (length t) (suc n) q in
@@ -315,10 +313,10 @@ module _ (k : Store) (t : List ℕ) (o : Open k) (live : k.stopped ≡ Go) where
   on_open h g (suc n) e = on-skip n e (ltb (length t) (suc n)) refl
 
 module _ (k : Store) (t : List ℕ) (o : Open k) (old : Bytes k.kept) (new : Bytes t) where
-  on-live : (v : Verdict) → k.stopped ≡ v → Stepped k t (feed_live k t v)
+  on-live : (v : Result Unit Refusal) → k.stopped ≡ v → Stepped k t (feed_live k t v)
   unfolding resume
-  on-live Go e = on_open k t o e (bytes_append k.kept t old new) old k.skip refl
-  on-live (Stop r) e =
+  on-live (Ok _) e = on_open k t o e (bytes_append k.kept t old new) old k.skip refl
+  on-live (Err r) e =
       record {
         same = λ u. rw e;
         stays = o;
@@ -338,16 +336,16 @@ pub resume-end : (k : Store) → Open k → resume k [] ≡ ended k.stopped
 unfolding resume
 resume-end k o = of k.stopped k.skip refl
   where
-    of : (v : Verdict) (n : ℕ) → k.skip ≡ n → resume_store k.kept n [] v ≡ ended v
-    of (Stop r) n e = refl
-    of Go (suc n) e = rw (lt-ltb 0 (suc n) (omega arith))
-    of Go zero e = ap whole (append-nil k.kept) ∙ whole-read k.kept (refused Incomplete) (o.waits e)
+    of : (v : Result Unit Refusal) (n : ℕ) → k.skip ≡ n → resume_store k.kept n [] v ≡ ended v
+    of (Err r) n e = refl
+    of (Ok _) (suc n) e = rw (lt-ltb 0 (suc n) (omega arith))
+    of (Ok _) zero e = ap whole (append-nil k.kept) ∙ whole-read k.kept (refused Incomplete) (o.waits e)
 
 -- after a refusal no byte counts
-pub resume-stopped : (k : Store) (t : List ℕ) → (k.stopped ≡ Go → ⊥) → resume k t ≡ ended k.stopped
+pub resume-stopped : (k : Store) (t : List ℕ) → (k.stopped ≡ Ok tt → ⊥) → resume k t ≡ ended k.stopped
 unfolding resume
 resume-stopped k t h = of k.stopped refl
   where
-    of : (v : Verdict) → k.stopped ≡ v → resume_store k.kept k.skip t v ≡ ended v
-    of Go e = absurd (h e)
-    of (Stop r) e = refl
+    of : (v : Result Unit Refusal) → k.stopped ≡ v → resume_store k.kept k.skip t v ≡ ended v
+    of (Ok _) e = absurd (h e)
+    of (Err r) e = refl

@@ -1,4 +1,5 @@
 -- The store's own test by its cases, and the number that is no refusal's. Assumes nothing.
+use Rattle.std.proofs.Common.{Err}
 use Prim.Native.Nat.{ℕ, ◌+◌, ◌≤◌, ◌<◌}
 use mathlib.Core.Bool.{Bool, false, ◌&&◌, and-true, and-false}
 use mathlib.Core.Path.{◌≡◌, sym, ap, ◌∙◌}
@@ -10,7 +11,6 @@ use lib.Dec.{ltb, eqb}
 use lib.ListN.{length, get_or, take, length-take}
 use lib.Seq.{take_all}
 use Rattle.answer.specs.declared.Refusal.TheVariants.{Incomplete}
-use Rattle.answer.specs.declared.Verdict.TheVariants.{Stop}
 use Rattle.answer.specs.Choice.{pick}
 use Rattle.answer.proofs.Tests.{only_false, order}
 use Rattle.octets.specs.Big.{Bytes}
@@ -24,7 +24,7 @@ use Rattle.stream.proofs.StepLaws.{store_open, open_within}
 
 -- a number that no refusal has
 pub remembered-none : (n : ℕ) → (n ≡ 0 → ⊥) → (n ≡ 2 → ⊥) → (n ≡ 3 → ⊥) → (n ≡ 4 → ⊥) → (n ≡ 5 → ⊥) → (n ≡ 6 → ⊥) → (n ≡ 7 → ⊥)
-    → Stop Incomplete ≡ remembered_by n
+    → Err Incomplete ≡ remembered_by n
 remembered-none n a b c d e f g =
     sym (rw (ne_eqb n 0 a, ne_eqb n 2 b, ne_eqb n 3 c, ne_eqb n 4 d, ne_eqb n 5 e, ne_eqb n 6 f, ne_eqb n 7 g))
 

@@ -1,5 +1,6 @@
 -- The store in the words of a state and in the lent bytes: what is stored is read back, and the lists and templates mean what they meant.
 -- Assumes nothing.
+use Rattle.std.proofs.Common.{Result, Ok, Err}
 use Prim.Native.Nat.{ℕ, zero, suc, ◌+◌, ◌≤◌, ◌<◌}
 use mathlib.Core.Bool.{true, false}
 use mathlib.Core.Path.{◌≡◌, refl, sym, ap, ◌∙◌}
@@ -10,8 +11,7 @@ use borrow.Author.Tests.{le-leb, leb-true, ne_eqb}
 use lib.Dec.{lit<, leb}
 use lib.ListN.{length, get_or, take, drop, take-append-drop}
 use lib.Seq.{length-take-le, drop-cons, get_or-take, get_or-drop, take-add, get_or-append-add, take-append_seam}
-use Rattle.answer.specs.declared.Verdict.{Verdict}
-use Rattle.answer.specs.declared.Verdict.TheVariants.{Go, Stop}
+use Rattle.answer.specs.declared.Refusal.{Refusal}
 use Rattle.answer.specs.Number.{number_of, number_of_injective, number_of_positive, verdict_number}
 use Rattle.answer.proofs.Tests.{order, and_both}
 use Rattle.octets.specs.Parts.{part, with_part}
@@ -34,27 +34,27 @@ by_number (suc (suc (suc (suc (suc (suc zero)))))) h k = refl
 by_number (suc (suc (suc (suc (suc (suc (suc zero))))))) h k = refl
 by_number (suc (suc (suc (suc (suc (suc (suc (suc n)))))))) h k = absurd (omega arith)
 
-same_number : (a b : Verdict) → verdict_number a ≡ verdict_number b → a ≡ b
-same_number Go Go e = refl
-same_number Go (Stop r) e = absurd (omega (arith, number_of_positive r))
-same_number (Stop r) Go e = absurd (omega (arith, number_of_positive r))
-same_number (Stop q) (Stop r) e = ap Stop (number_of_injective q r e)
+same_number : (a b : Result Unit Refusal) → verdict_number a ≡ verdict_number b → a ≡ b
+same_number (Ok _) (Ok _) e = refl
+same_number (Ok _) (Err r) e = absurd (omega (arith, number_of_positive r))
+same_number (Err r) (Ok _) e = absurd (omega (arith, number_of_positive r))
+same_number (Err q) (Err r) e = ap Err (number_of_injective q r e)
 
-stop-number : (v : Verdict) → sound_stop v ≡ true → (verdict_number v ≤ 7) × (verdict_number v ≡ 1 → ⊥)
-stop-number Go h = (omega arith, λ e. omega arith)
-stop-number (Stop r) h =
+stop-number : (v : Result Unit Refusal) → sound_stop v ≡ true → (verdict_number v ≤ 7) × (verdict_number v ≡ 1 → ⊥)
+stop-number (Ok _) h = (omega arith, λ e. omega arith)
+stop-number (Err r) h =
     let p = and_both (leb 2 (number_of r)) (leb (number_of r) 7) h in
     let a = leb-true 2 (number_of r) p.0 in
     (leb-true (number_of r) 7 p.1, λ e. omega arith)
 
-number-stop : (v : Verdict) → verdict_number v ≤ 7 → (verdict_number v ≡ 1 → ⊥) → sound_stop v ≡ true
-number-stop Go h k = refl
-number-stop (Stop r) h k =
+number-stop : (v : Result Unit Refusal) → verdict_number v ≤ 7 → (verdict_number v ≡ 1 → ⊥) → sound_stop v ≡ true
+number-stop (Ok _) h k = refl
+number-stop (Err r) h k =
     let a : 2 ≤ number_of r = ⊎_elim (λ l. absurd (k (omega (arith, number_of_positive r)))) (λ l. l) (order (number_of r) 2) in
     rw (le-leb 2 (number_of r) a, le-leb (number_of r) 7 h)
 
 -- the word of a refusal that may be remembered stands for it
-pub remembered-back : (v : Verdict) → sound_stop v ≡ true → remembered_by (verdict_number v) ≡ v
+pub remembered-back : (v : Result Unit Refusal) → sound_stop v ≡ true → remembered_by (verdict_number v) ≡ v
 remembered-back v h = let p = stop-number v h in same_number (remembered_by (verdict_number v)) v (by_number (verdict_number v) p.0 p.1)
 
 -- 0 and 2 to 7 may be remembered, and no other number

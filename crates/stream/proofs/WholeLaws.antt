@@ -1,16 +1,16 @@
 -- A buffer read whole, capsule by capsule. Assumes nothing.
+use Rattle.std.proofs.Common.{Ok}
 use Prim.Native.Nat.{ℕ, zero, suc, ◌≤◌}
 use mathlib.Core.Path.{◌≡◌, refl, sym, ap, ◌∙◌}
 use mathlib.Core.List.{List, [], ◌∷◌}
 use native.Mathlib.Omega.{arith}
 use lib.ListN.{length, drop, length-drop}
-use Rattle.answer.specs.declared.Verdict.TheVariants.{Go}
 use Rattle.capsule.specs.Capsules.{Reading, refused, capsule, read_capsule}
 use Rattle.capsule.proofs.ReadLaws.{read-within}
 use Rattle.capsule.proofs.FrontLaws.{nothing-there}
 use Rattle.stream.specs.Buffer.{Told, ended, before, after_reading, read_all, whole}
 
-no_bytes : (s : List ℕ) (next : List ℕ → Told) → length s ≤ 0 → ended Go ≡ after_reading next s (read_capsule s)
+no_bytes : (s : List ℕ) (next : List ℕ → Told) → length s ≤ 0 → ended (Ok tt) ≡ after_reading next s (read_capsule s)
 no_bytes [] next h = sym (ap (after_reading next []) nothing-there)
 no_bytes (b ∷ s) next h = absurd (omega arith)
 

@@ -1,7 +1,6 @@
 -- Calls, computed.
-use Rattle.std.specs.Prelude.{ℕ, ◌-◌, ◌^◌, ◌≡◌, refl, true, false, List, [], ◌∷◌, replicate}
+use Rattle.std.specs.Prelude.{ℕ, ◌-◌, ◌^◌, ◌≡◌, refl, true, false, List, [], ◌∷◌, replicate, Ok, Err}
 use Rattle.answer.specs.declared.Refusal.TheVariants.{TooLong, BadRequestId, BrokenState, NoRoom}
-use Rattle.answer.specs.declared.Verdict.TheVariants.{Go, Stop}
 use Rattle.varint.specs.Numbers.{read_number}
 use Rattle.capsule.specs.Elements.{parse, elements_in}
 use Rattle.capsule.specs.Heads.{head_of}
@@ -16,11 +15,11 @@ use Rattle.stream.specs.Feeding.{kept_size, store_in, feed_tests, feed_verdict}
 
 -- a store with these bytes of an open capsule
 holding : List ℕ → Store
-holding s = record { kept = s; skip = 0; stopped = Go }
+holding s = record { kept = s; skip = 0; stopped = (Ok tt) }
 
 -- so many bytes of a skipped value are still to come
 skipping : ℕ → Store
-skipping n = record { kept = []; skip = n; stopped = Go }
+skipping n = record { kept = []; skip = n; stopped = (Ok tt) }
 
 -- ---- cut anywhere
 
@@ -94,7 +93,7 @@ unfolding feed_store read_capsule frame_of read_number read_value elements_in pa
 refused = refl
 
 stopped : Store
-stopped = record { kept = 0x02 ∷ []; skip = 0; stopped = Stop BadRequestId }
+stopped = record { kept = 0x02 ∷ []; skip = 0; stopped = Err BadRequestId }
 
 repeated : feed_store stopped (0x00 ∷ 0x00 ∷ []) ≡ says stopped BadRequestId
 unfolding feed_store stopped
@@ -114,7 +113,7 @@ skipped-kept : sound_store (holding (0x21 ∷ 0x03 ∷ 0x45 ∷ [])) ≡ false
 unfolding sound_store frame_of read_number to_skip head_of holding
 skipped-kept = refl
 
-nine_kept : sound_store (record { kept = []; skip = 0; stopped = Stop BrokenState }) ≡ false
+nine_kept : sound_store (record { kept = []; skip = 0; stopped = Err BrokenState }) ≡ false
 unfolding sound_store frame_of read_number to_skip head_of
 nine_kept = refl
 
@@ -130,10 +129,10 @@ fresh-store : store_in fresh (replicate kept_size 0xff) ≡ empty
 unfolding fresh
 fresh-store = refl
 
-no_room : feed_verdict fresh (replicate kept_size 0) (max_value - 1) ≡ Stop NoRoom
+no_room : feed_verdict fresh (replicate kept_size 0) (max_value - 1) ≡ Err NoRoom
 unfolding feed_tests fresh
 no_room = refl
 
-room : feed_verdict fresh (replicate kept_size 0) max_value ≡ Go
+room : feed_verdict fresh (replicate kept_size 0) max_value ≡ Ok tt
 unfolding feed_tests sound_state sound_side sound_addresses sound_routes sound_templates plan_fault entries_of ranges_of templates_of sound_store frame_of read_number to_skip head_of fresh
 room = refl

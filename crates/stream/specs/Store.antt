@@ -1,13 +1,10 @@
 -- Capsules in pieces: what is kept of an unfinished capsule between calls, and what one call does with the bytes it is given.
-use Rattle.std.specs.Prelude.{ℕ, zero, suc, ◌+◌, ◌-◌, Bool, true, false, ◌&&◌, List, [], ◌∷◌, ◌++◌, leb, ltb, eqb, length}
+use Rattle.std.specs.Prelude.{ℕ, zero, suc, ◌+◌, ◌-◌, Bool, true, false, ◌&&◌, List, [], ◌∷◌, ◌++◌, leb, ltb, eqb, length, Option, Some, None, Result, Ok, Err}
 use Rattle.answer.specs.declared.Refusal.{Refusal}
-use Rattle.answer.specs.declared.Verdict.{Verdict}
-use Rattle.answer.specs.declared.Verdict.TheVariants.{Go, Stop}
 use Rattle.answer.specs.Choice.{pick}
 use Rattle.answer.specs.Number.{number_of}
 use Rattle.varint.specs.Numbers.{limit}
 use Rattle.capsule.specs.declared.FrameRead.{FrameRead}
-use Rattle.capsule.specs.declared.FrameRead.TheVariants.{Value, Refused}
 use Rattle.capsule.specs.declared.Head.{Head}
 use Rattle.capsule.specs.Heads.{head_of}
 use Rattle.capsule.specs.Capsules.{Capsule, unknown, Reading, refused, capsule, frame_of, read_capsule}
@@ -18,28 +15,28 @@ use Rattle.capsule.specs.Capsules.{Capsule, unknown, Reading, refused, capsule, 
 pub record Store : Type 0 where
   pub kept : List ℕ
   pub skip : ℕ
-  pub stopped : Verdict
+  pub stopped : Result Unit Refusal
 
 abbrev pub empty : Store
-empty = record { kept = []; skip = 0; stopped = Go }
+empty = record { kept = []; skip = 0; stopped = (Ok tt) }
 
 -- how many bytes behind s are still to come of a capsule that is skipped: type and length must be there
-abbrev pub skip_behind : List ℕ → Head → ℕ
-skip_behind s (Head.Known kind start size) = pick (ltb 3 kind) (start + size - length s) 0
-skip_behind s Head.Cut = 0
+abbrev pub skip_behind : List ℕ → Option Head → ℕ
+skip_behind s (Some h) = pick (ltb 3 h.kind) (h.start + h.length - length s) 0
+skip_behind s None = 0
 
 unfoldable pub to_skip : List ℕ → ℕ
 to_skip s = skip_behind s (head_of s)
 
 -- a frame that is not all there
-abbrev pub lacking : FrameRead → Bool
-lacking (Value kind start size) = false
-lacking (Refused r) = eqb (number_of r) 1
+abbrev pub lacking : Result FrameRead Refusal → Bool
+lacking (Ok _) = false
+lacking (Err r) = eqb (number_of r) 1
 
 -- what may be remembered: 2 to 7
-abbrev pub sound_stop : Verdict → Bool
-sound_stop Go = true
-sound_stop (Stop r) = leb 2 (number_of r) && leb (number_of r) 7
+abbrev pub sound_stop : Result Unit Refusal → Bool
+sound_stop (Ok _) = true
+sound_stop (Err r) = leb 2 (number_of r) && leb (number_of r) 7
 
 -- the rules of a store: what is kept is the front of an open capsule that is not skipped, and while one is skipped nothing is kept
 unfoldable pub sound_store : Store → Bool
@@ -49,8 +46,8 @@ sound_store k =
 
 -- what is kept of an open capsule whose bytes so far are s
 abbrev pub keeping : List ℕ → ℕ → Store
-keeping s zero = record { kept = s; skip = 0; stopped = Go }
-keeping s (suc n) = record { kept = []; skip = suc n; stopped = Go }
+keeping s zero = record { kept = s; skip = 0; stopped = (Ok tt) }
+keeping s (suc n) = record { kept = []; skip = suc n; stopped = (Ok tt) }
 
 -- ---- a call
 pub data Said : Type 0 where
@@ -75,7 +72,7 @@ waits n s = record { said = waiting s; taken = n; store = keeping s (to_skip s) 
 
 -- the refusal is remembered, and nothing else changes
 abbrev pub remembers : Store → Refusal → Fed
-remembers k r = record { said = no r; taken = 0; store = record { kept = k.kept; skip = k.skip; stopped = Stop r } }
+remembers k r = record { said = no r; taken = 0; store = record { kept = k.kept; skip = k.skip; stopped = Err r } }
 
 -- a refusal that changes nothing
 abbrev pub says : Store → Refusal → Fed
@@ -89,7 +86,7 @@ on_reading k n s (capsule c start size) = record { said = out c; taken = size - 
 -- a capsule that is skipped: n bytes are still to come, and m are given
 abbrev pub on_skip : ℕ → ℕ → Fed
 on_skip n m =
-    pick (ltb m n) (record { said = wait; taken = m; store = record { kept = []; skip = n - m; stopped = Go } })
+    pick (ltb m n) (record { said = wait; taken = m; store = record { kept = []; skip = n - m; stopped = (Ok tt) } })
     (record { said = out unknown; taken = n; store = empty })
 
 abbrev pub feed_open : Store → List ℕ → ℕ → Fed
@@ -97,9 +94,9 @@ feed_open k t zero = on_reading k (length t) (k.kept ++ t) (read_capsule (k.kept
 feed_open k t (suc n) = on_skip (suc n) (length t)
 
 -- a refusal that is remembered is repeated
-abbrev pub feed_live : Store → List ℕ → Verdict → Fed
-feed_live k t Go = feed_open k t k.skip
-feed_live k t (Stop r) = says k r
+abbrev pub feed_live : Store → List ℕ → Result Unit Refusal → Fed
+feed_live k t (Ok _) = feed_open k t k.skip
+feed_live k t (Err r) = says k r
 
 -- the bytes t are given to a sound store
 unfoldable pub feed_store : Store → List ℕ → Fed

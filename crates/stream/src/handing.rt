@@ -4,6 +4,7 @@ ghost use Rattle.stream.specs.Handing.{HandsOn};
 use crate::feeding::{Call, Piece, feed};
 use crate::store::KEPT_SIZE;
 use answer::Refusal;
+use capsule::Kind;
 use capsule_write::CAPSULE_ROOM;
 use lists::ADDRESS_WORDS;
 use state::STATE_WORDS;
@@ -14,33 +15,29 @@ pub fn next_capsule(
     kept: &mut [u8; KEPT_SIZE],
     bytes: &[u8],
     out: &mut [u8],
-) -> Piece
+) -> Result<Piece, Refusal>
     ensures { HandsOn state.old kept.old bytes.now out.old result state.new
         kept.new out.new }
 {
     if out.len() < CAPSULE_ROOM {
-        return Piece {
-            call: Call::Stopped(Refusal::NoRoom),
-            taken: 0,
-        };
+        return Err(Refusal::NoRoom);
     }
     let mut requested = [0u64; ADDRESS_WORDS];
-    let read = feed(state, kept, bytes, out, &mut requested);
+    let read = feed(state, kept, bytes, out, &mut requested)?;
     let call = read.call;
     match call {
         Call::Handed { kind, length } => {
-            if kind == 2 {
+            let is_request = kind == Kind::AddressRequest;
+            if is_request {
                 let answer = capsule_write::put_request_value(&requested, out);
-                let n = answer.length();
-                return Piece {
+                let n = answer::length_of(answer);
+                return Ok(Piece {
                     call: Call::Handed { kind, length: n },
                     taken: read.taken,
-                };
+                });
             }
-            read
+            Ok(read)
         }
-        Call::Between => read,
-        Call::Wait => read,
-        Call::Stopped(_) => read,
+        Call::Between | Call::Wait => Ok(read),
     }
 }

@@ -1,4 +1,5 @@
 -- What a step that finds something went through. Assumes nothing.
+use Rattle.std.proofs.Common.{Option, Some, None}
 use Prim.Native.Nat.{ℕ, zero, suc, ◌≤◌}
 use mathlib.Core.Path.{◌≡◌, refl, sym, ap, ◌∙◌}
 use mathlib.Core.Bool.{Bool, true, false}
@@ -9,9 +10,8 @@ use lib.Dec.{leb}
 use lib.ListN.{length, take, drop, take-append-drop}
 use lib.Seq.{length-take-le}
 use Rattle.answer.specs.declared.Refusal.{Refusal}
-use Rattle.varint.specs.declared.NumberRead.{NumberRead}
-use Rattle.varint.specs.declared.NumberRead.TheVariants.{Whole, Cut}
-use Rattle.varint.specs.Numbers.{read_number, shortest, encoded_size}
+use Rattle.varint.specs.declared.Number.{Number}
+use Rattle.varint.specs.Numbers.{read_number, shortest, encoded_size, number}
 use Rattle.table.specs.Templates.{Piece, piece_end}
 use Rattle.table.specs.Rules.{segment_rule}
 use Rattle.table.specs.File.{Step, stop, found, and_then, mapped, holding, shortest_in, number_in, two_in, byte_in, bytes_in, piece_with, piece_in, pieces_in}
@@ -49,7 +49,7 @@ holding-found false w x e = absurd (never e)
 
 pub record NumberGot (s : List ℕ) (v : ℕ) (rest : List ℕ) : Type 0 where
   pub size : ℕ
-  pub read : read_number s ≡ Whole v size
+  pub read : read_number s ≡ Some (number v size)
   pub short : size ≡ encoded_size v
   pub behind : rest ≡ drop size s
 
@@ -57,14 +57,14 @@ pub number-found : (s : List ℕ) {v : ℕ} {rest : List ℕ} → number_in s �
 unfolding number_in
 number-found s {v} {rest} e = go (read_number s) refl e
   where
-    go : (r : NumberRead) → read_number s ≡ r → shortest_in s r ≡ found v rest → NumberGot s v rest
-    go (Whole u n) q f =
-        let h = holding-found (shortest u n) _ (found u (drop n s)) f in
-        let i : found u (drop n s) ≡ found v rest = h.1 in
-        let z : u ≡ v = cc in
-        let y : drop n s ≡ rest = cc in
-        record { size = n; read = q ∙ rw z; short = rw z at (eqb-true n (encoded_size u) h.0); behind = sym y }
-    go Cut q f = absurd (never f)
+    go : (r : Option Number) → read_number s ≡ r → shortest_in s r ≡ found v rest → NumberGot s v rest
+    go (Some number) q f =
+        let h = holding-found (shortest number.value number.size) _ (found number.value (drop number.size s)) f in
+        let i : found number.value (drop number.size s) ≡ found v rest = h.1 in
+        let z : number.value ≡ v = cc in
+        let y : drop number.size s ≡ rest = cc in
+        record { size = number.size; read = q ∙ rw z; short = rw z at (eqb-true number.size (encoded_size number.value) h.0); behind = sym y }
+    go None q f = absurd (never f)
 
 pub record TwoGot (s : List ℕ) (n : ℕ × ℕ) (rest : List ℕ) : Type 0 where
   pub mid : List ℕ

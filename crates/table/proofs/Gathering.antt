@@ -1,4 +1,5 @@
 -- The loops that read segments and templates: what was found so far, before what is still to be read, is what the whole step finds. Assumes nothing.
+use Rattle.std.proofs.Common.{Ok, Err, Result}
 use Prim.Native.Nat.{ℕ, suc, ◌+◌, ◌-◌, ◌*◌, ◌≤◌, ◌<◌}
 use mathlib.Core.Path.{◌≡◌, refl, sym, ap, ◌∙◌}
 use mathlib.Core.List.{List, [], ◌∷◌, ◌++◌, append-nil}
@@ -8,20 +9,17 @@ use lib.ListN.{length, take, drop, set, replicate, length-append, length-drop, d
 use lib.Seq.{append_snoc, drop-cons, length-take-le}
 use Rattle.answer.specs.declared.Refusal.{Refusal}
 use Rattle.answer.specs.declared.Refusal.TheVariants.{PlanCut}
-use Rattle.answer.specs.declared.Verdict.TheVariants.{Go, Stop}
 use borrow.Rule.Slice.PartMut.{put_mid}
 use Rattle.octets.specs.Parts.{part, with_part}
 use Rattle.octets.proofs.Parts.{is-part, put-part, length_with_part}
 use Rattle.table.specs.declared.reading.SegmentAt.{SegmentAt}
-use Rattle.table.specs.declared.reading.StoredAt.{StoredAt}
 use Rattle.table.specs.declared.reading.TemplateAt.{TemplateAt}
 use Rattle.table.specs.Limits.{max_templates, max_segments, static_limit}
 use Rattle.table.specs.Templates.{Piece, piece_end, Template}
 use Rattle.table.specs.Words.{head_words, words_per_segment, image_at, template_words, table_words, pack_template, templates_words, pack_table}
 use Rattle.table.specs.File.{Step, stop, found, and_then, mapped, piece_in, pieces_in, template_in, templates_in, ending}
-use Rattle.table.specs.Found.{piece_at, body_words, PieceFound, PiecesFound, TemplateFound, TemplatesFound, not_stored_at}
+use Rattle.table.specs.Found.{FoundAt, piece_at, body_words, PiecesFound, TemplateFound, TemplatesFound}
 use Rattle.table.proofs.RuleCases.{segment_facts}
-use Rattle.table.proofs.Steps.{told-go, told-stop}
 use Rattle.table.proofs.Finding.{piece_found}
 use Rattle.table.proofs.Storing.{segment_size, segment_stored}
 use Rattle.table.proofs.Packing.{Sized, sized-more, table_blank, table_put}
@@ -74,68 +72,60 @@ module _ (s : List ℕ) (at n : ℕ) (t : List ℕ) where
         rest = rw sub-zero (mapped-id (pieces_in n 0 (drop at s)));
       }
 
-module _ (s : List ℕ) (t : List ℕ) (ended : ℕ) {r : SegmentAt} (f : PieceFound s (piece_in ended t) r) where
+module _ (s : List ℕ) (t : List ℕ) (ended : ℕ) (r : SegmentAt) (f : FoundAt s (piece_in ended t) (piece_at s r) (r.start + r.size)) where
   pub size-taken : length (part s r.start r.size) ≡ r.size
   size-taken =
       let w : r.start + r.size ≤ length s = f.within in
       let l : r.size ≤ length (drop r.start s) = rw length-drop (omega arith) in
       length-take-le r.size (drop r.start s) l
 
-  pub piece_inside : r.verdict ≡ Go → r.offset + r.size ≤ static_limit
-  piece_inside e =
-      let g = (piece_found ended t (told-go e f.same)).rule in
+  pub piece_inside : r.offset + r.size ≤ static_limit
+  piece_inside =
+      let g = (piece_found ended t f.same).rule in
       let w = (segment_facts ended r.offset (length (part s r.start r.size)) g).within in
       omega (arith, w, size-taken)
 
-pub no-go : {w : Refusal} {A : Type 0} → Stop w ≡ Go → A
+pub no-go : {w : Refusal} {A : Type 0} → ◌≡◌ {A = Result Unit Refusal} (Err w) (Ok tt) → A
 no-go e = let z : ◌≡◌ {A = ℕ} 0 1 = cc in absurd (omega arith)
 
 module _ {s : List ℕ} {at n : ℕ} {t : List ℕ} {ended next j : ℕ} (a : Gathering s at n t ended next j) where
-  pub gather-end : n ≤ j → PiecesFound s (pieces_in n 0 (drop at s)) (record { verdict = Go; next = next }) t
+  pub gather-end : n ≤ j → PiecesFound s (pieces_in n 0 (drop at s)) (Ok next) t
   unfolding pieces_in
   gather-end h =
       let e : n - j ≡ 0 = omega arith in
       record {
-        pieces = a.done;
-        within = a.within;
-        same = rw (e, append-nil) at a.rest;
         size = a.size;
-        words = λ g. a.stored;
+        told = record {
+          pieces = a.done;
+          read = record { within = a.within; same = sym (rw (e, append-nil) at a.rest) };
+          words = a.stored;
+        };
       }
 
-  module _ {r : SegmentAt} (h : j < n) (f : PieceFound s (piece_in ended (drop next s)) r) where
+  module _ (h : j < n) where
     more-pieces : pieces_in (n - j) ended (drop next s)
         ≡ and_then (piece_in ended (drop next s)) (λ p s₁. mapped (λ ps. p ∷ ps) (pieces_in (n - (j + 1)) (piece_end p) s₁))
     unfolding pieces_in
     more-pieces = let e : n - j ≡ suc (n - (j + 1)) = omega arith in rw e
 
-    pub gather-stop : {w : Refusal} {q : StoredAt} → r.verdict ≡ Stop w → q ≡ not_stored_at w → PiecesFound s (pieces_in n 0 (drop at s)) q t
-    gather-stop {w} e g =
-        let z = told-stop (piece_at s r) (drop (r.start + r.size) s) e f.same in
-        rw g
-        (record {
-          pieces = [];
-          within = omega arith;
-          same = rw (more-pieces, z) at a.rest;
-          size = a.size;
-          words = λ v. no-go v;
-        })
+    pub gather-stop : {w : Refusal} → piece_in ended (drop next s) ≡ stop w → PiecesFound s (pieces_in n 0 (drop at s)) (Err w) t
+    gather-stop e = record { size = a.size; told = sym (rw (more-pieces, e) at a.rest) }
 
-    pub gather-next : {t₁ : List ℕ} → j < max_segments → r.verdict ≡ Go
+    pub gather-next : (r : SegmentAt) {t₁ : List ℕ} → FoundAt s (piece_in ended (drop next s)) (piece_at s r) (r.start + r.size) → j < max_segments
         → t₁ ≡ with_part (set (set t (head_words + j * words_per_segment) r.offset) (head_words + j * words_per_segment + 1) r.size) (image_at + r.offset) (image_at + r.offset + r.size) (part s r.start r.size)
         → Gathering s at n t₁ (r.offset + r.size) (r.start + r.size) (j + 1)
-    gather-next {t₁} k e g =
+    gather-next r {t₁} f k g =
         let p = piece_at s r in
-        let l : length p.bytes ≡ r.size = size-taken s (drop next s) ended f in
+        let l : length p.bytes ≡ r.size = size-taken s (drop next s) ended r f in
         let pe : piece_end p ≡ r.offset + r.size = rw l in
         let few : length a.done < max_segments = omega (arith, a.count) in
-        let inside : piece_end p ≤ static_limit = omega (arith, pe, piece_inside s (drop next s) ended f e) in
+        let inside : piece_end p ≤ static_limit = omega (arith, pe, piece_inside s (drop next s) ended r f) in
         let now : t₁ ≡ with_part (set (set t (head_words + length a.done * words_per_segment) p.offset) (head_words + length a.done * words_per_segment + 1) (length p.bytes)) (image_at + p.offset) (image_at + p.offset + length p.bytes) p.bytes =
         g ∙ ap (λ (i : ℕ). with_part (set (set t (head_words + i * words_per_segment) r.offset) (head_words + i * words_per_segment + 1) r.size) (image_at + r.offset) (image_at + r.offset + r.size) p.bytes) (sym a.count)
         ∙ ap (λ (i : ℕ). with_part (set (set t (head_words + length a.done * words_per_segment) r.offset) (head_words + length a.done * words_per_segment + 1) i) (image_at + r.offset) (image_at + r.offset + i) p.bytes) (sym l)
         in
         let re : mapped (λ ps. a.done ++ ps) (mapped (λ ps. p ∷ ps) (pieces_in (n - (j + 1)) (piece_end p) (drop (r.start + r.size) s))) ≡ pieces_in n 0 (drop at s) =
-        rw (more-pieces, told-go e f.same) at a.rest
+        rw (more-pieces, f.same) at a.rest
         in
         record {
           done = a.done ++ (p ∷ []);
@@ -189,34 +179,35 @@ module _ {s : List ℕ} {n : ℕ} {w : List ℕ} {previous next i : ℕ} (a : Co
     unfolding templates_in
     all_read = let e : n - i ≡ 0 = omega arith in sym (rw (e, append-nil) at a.rest)
 
-    pub collect-over : next < length s → TemplatesFound (and_then (templates_in n 0 (drop 6 s)) ending) (Stop PlanCut) w
+    pub collect-over : next < length s → TemplatesFound (and_then (templates_in n 0 (drop 6 s)) ending) (Err PlanCut) w
     collect-over k = rw (all_read, drop-cons s next 0 k) (record { verdict = refl; words = refl })
 
-    pub collect-end : length s ≤ next → TemplatesFound (and_then (templates_in n 0 (drop 6 s)) ending) Go (set w 0 n)
+    pub collect-end : length s ≤ next → TemplatesFound (and_then (templates_in n 0 (drop 6 s)) ending) (Ok tt) (set w 0 n)
     unfolding pack_table
     collect-end k =
         let c : n ≡ length a.done = omega (arith, a.count, a.turn) in
         let e : drop next s ≡ [] = drop_of_length-le s k in
         rw (all_read, e) (record { verdict = refl; words = rw (a.stored, ← c) })
 
-  module _ {r : TemplateAt} {t : List ℕ} (h : i < n) (f : TemplateFound s (template_in previous (drop next s)) r t) where
+  module _ (h : i < n) where
     more-templates : templates_in (n - i) previous (drop next s)
         ≡ and_then (template_in previous (drop next s)) (λ t s₁. mapped (λ ts. t ∷ ts) (templates_in (n - (i + 1)) t.id s₁))
     unfolding templates_in
     more-templates = let e : n - i ≡ suc (n - (i + 1)) = omega arith in rw e
 
-    pub collect-stop : {why : Refusal} {w₁ : List ℕ} → r.verdict ≡ Stop why → TemplatesFound (and_then (templates_in n 0 (drop 6 s)) ending) (Stop why) w₁
+    pub collect-stop : {why : Refusal} {w₁ : List ℕ} → template_in previous (drop next s) ≡ stop why
+        → TemplatesFound (and_then (templates_in n 0 (drop 6 s)) ending) (Err why) w₁
     collect-stop {why} e =
-        let z = told-stop f.template (drop r.next s) e f.same in
-        let y : stop why ≡ templates_in n 0 (drop 6 s) = rw (more-templates, z) at a.rest in
+        let y : stop why ≡ templates_in n 0 (drop 6 s) = rw (more-templates, e) at a.rest in
         rw (← y) (record { verdict = refl; words = refl })
 
-    pub collect-next : {w₁ : List ℕ} → i < max_templates → r.verdict ≡ Go
+    pub collect-next : (r : TemplateAt) {t w₁ : List ℕ} → TemplateFound s (template_in previous (drop next s)) (Ok r) t → i < max_templates
         → w₁ ≡ put_mid (1 + i * template_words) (1 + i * template_words + template_words - (1 + i * template_words)) w t
         → Collecting s n w₁ r.id r.next (i + 1)
-    collect-next {w₁} k e g =
-        let u = f.template in
-        let m : t ≡ pack_template u = f.words e in
+    collect-next r {t} {w₁} f k g =
+        let b = f.told.0 in
+        let u = b.template in
+        let m : t ≡ pack_template u = b.words in
         let l : length (pack_template u) ≡ template_words = sym (ap length m) ∙ f.size in
         let few : length a.done < max_templates = omega (arith, a.count) in
         let now : w₁ ≡ with_part w (1 + i * template_words) (1 + i * template_words + template_words) t =
@@ -230,16 +221,16 @@ module _ {s : List ℕ} {n : ℕ} {w : List ℕ} {previous next i : ℕ} (a : Co
         ∙ table_put 0 a.done a.sized few u
         in
         let re : mapped (λ ts. a.done ++ ts) (mapped (λ ts. u ∷ ts) (templates_in (n - (i + 1)) u.id (drop r.next s))) ≡ templates_in n 0 (drop 6 s) =
-        rw (more-templates, told-go e f.same) at a.rest
+        rw (more-templates, b.read.same) at a.rest
         in
         let sz : length w₁ ≡ length w = ap length now ∙ length_with_part w (1 + i * template_words) template_words t f.size (omega (arith, a.size)) in
         record {
           done = a.done ++ (u ∷ []);
           count = rw (length-append, a.count);
           turn = omega arith;
-          within = f.within;
+          within = b.read.within;
           size = sz ∙ a.size;
           sized = sized-more a.done u a.sized l;
           stored = st;
-          rest = rw (f.id e) (sym (mapped_snoc a.done u (templates_in (n - (i + 1)) u.id (drop r.next s))) ∙ re);
+          rest = rw (f.told.1) (sym (mapped_snoc a.done u (templates_in (n - (i + 1)) u.id (drop r.next s))) ∙ re);
         }

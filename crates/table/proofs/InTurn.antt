@@ -25,7 +25,3 @@ module _ (w : List ℕ) where
   pub templates-done : (i n : ℕ) → n ≤ i → templates_from w i (n - i) ≡ []
   unfolding templates_from
   templates-done i n h = ap (map template_of) (from_end (words_at w) i n h)
-
-  -- t is its words, as they are cut out
-  pub usable-turn : (i : ℕ) {t : List ℕ} → Usable w → i < count_in w → t ≡ words_at w i → UsableTemplate t
-  usable-turn i u h q = rw q (u.all i h)

@@ -1,6 +1,7 @@
 -- The judge of a table, by the cases of the code: what the segments and templates not yet seen say is the answer. Assumes nothing.
+use Rattle.std.proofs.Common.{Option, Some, None, Result, Ok, Err}
 use Prim.Native.Nat.{ℕ, zero, suc, ◌+◌, ◌-◌, ◌*◌, ◌≤◌, ◌<◌}
-use mathlib.Core.Bool.{Bool, true, false, not, ◌&&◌, ◌||◌, and-false}
+use mathlib.Core.Bool.{Bool, true, false, not, ◌&&◌, and-false}
 use mathlib.Core.Path.{◌≡◌, refl, sym, ap, ◌∙◌}
 use mathlib.Core.List.{List, [], ◌∷◌, map}
 use native.Mathlib.Nat.{sub-zero}
@@ -9,77 +10,56 @@ use borrow.Author.Tests.{ne_eqb, lt-ltb, le-ltb}
 use lib.ListN.{length, take, drop, length-map}
 use Rattle.answer.specs.declared.Refusal.{Refusal}
 use Rattle.answer.specs.declared.Refusal.TheVariants.{PlanRule, PlanContext}
-use Rattle.answer.specs.declared.Verdict.{Verdict}
-use Rattle.answer.specs.declared.Verdict.TheVariants.{Go, Stop}
 use Rattle.answer.specs.Verdict.{stop_if, ◌then◌}
 use Rattle.answer.specs.Choice.{pick}
 use Rattle.octets.specs.Scan.{from}
-use Rattle.octets.proofs.Scans.{from_more, from_end, length_from}
+use Rattle.octets.proofs.Scans.{from_more, length_from}
 use Rattle.octets.proofs.Parts.{is-part}
 use Rattle.table.specs.declared.Segment.{Segment}
+use Rattle.table.specs.declared.Checksum.{Checksum}
 use Rattle.table.specs.declared.Head.{Head}
 use Rattle.table.specs.Limits.{max_templates, max_segments}
 use Rattle.table.specs.Templates.{segment_of, segments_of}
 use Rattle.table.specs.Words.{template_words, segment_at, head_of, piece_of, byte_at, sum_of, template_of, count_in, words_at, templates_of}
-use Rattle.table.specs.Rules.{id_rule, segment_rule, clear_of, sum_rule, segments_fault, all_clear, sum_fault, template_fault, templates_fault, plan_fault, goes}
-use Rattle.table.specs.Tests.{pair_or, pair_sound, segments_sound}
+use Rattle.table.specs.Rules.{id_rule, segment_rule, sum_rule, segments_fault, all_clear, sum_fault, template_fault, templates_fault, plan_fault, goes}
+use Rattle.table.specs.Tests.{pair_or, pair_sound, leaves_free, all_free, segments_sound}
 
 -- ---- tests
 
-field-taken : (b c x y : Bool) → (not b || c) ≡ false → (x && (not b || (c && y))) ≡ false
-field-taken true false x y e = and-false x
-field-taken true true x y e = let z : ◌≡◌ {A = ℕ} 0 1 = cc in absurd (omega arith)
-field-taken false c x y e = let z : ◌≡◌ {A = ℕ} 0 1 = cc in absurd (omega arith)
-
-field-free : (b c x y : Bool) → (not b || c) ≡ true → (x && (not b || (c && y))) ≡ (x && (not b || y))
-field-free true true x y e = refl
-field-free true false x y e = let z : ◌≡◌ {A = ℕ} 0 1 = cc in absurd (omega arith)
-field-free false c x y e = refl
+-- the first segment takes or leaves the field, and then the others
+free-step : (b : Option Checksum) (s : Segment) (ss : List Segment) → all_free b (s ∷ ss) ≡ (leaves_free b s.offset s.length && all_free b ss)
+free-step (Some k) s ss = refl
+free-step None s ss = refl
 
 -- ---- segments
 
 -- the segments before j keep the rule, leave the field of a checksum free, and end at `ended`
-pub record Fitting (b : Bool) (field : ℕ) (f : ℕ → Segment) (n ended j : ℕ) : Type 0 where
+pub record Fitting (b : Option Checksum) (f : ℕ → Segment) (n ended j : ℕ) : Type 0 where
   pub within : j ≤ n
-  pub rest : segments_sound b field ended (from f j (n - j)) ≡ segments_sound b field 0 (from f 0 n)
+  pub rest : segments_sound b ended (from f j (n - j)) ≡ segments_sound b 0 (from f 0 n)
 
-module _ (b : Bool) (field : ℕ) (f : ℕ → Segment) (n : ℕ) where
-  pub fit : Fitting b field f n 0 0
-  fit = record { within = omega arith; rest = rw sub-zero }
-
-module _ {b : Bool} {field : ℕ} {f : ℕ → Segment} {n ended j : ℕ} (a : Fitting b field f n ended j) where
+module _ {b : Option Checksum} {f : ℕ → Segment} {n ended j : ℕ} (a : Fitting b f n ended j) where
   module _ {s : Segment} (h : j < n) (q : s ≡ f j) where
-    pub fit-broken : segment_rule ended s.offset s.length ≡ false → false ≡ segments_sound b field 0 (from f 0 n)
+    pub fit-broken : segment_rule ended s.offset s.length ≡ false → false ≡ segments_sound b 0 (from f 0 n)
     fit-broken e = rw (from_more f j n h, ← q, e) at a.rest
 
     module _ (e : segment_rule ended s.offset s.length ≡ true) where
-      clear : Bool
-      clear = clear_of field s.offset s.length
-
       fault : Bool
       fault = goes (segments_fault (s.offset + s.length) (from f (j + 1) (n - (j + 1))))
 
       free : Bool
-      free = all_clear field (from f (j + 1) (n - (j + 1)))
+      free = all_free b (from f (j + 1) (n - (j + 1)))
 
-      step : (fault && (not b || (clear && free))) ≡ segments_sound b field 0 (from f 0 n)
-      unfolding clear fault free
-      step = rw (from_more f j n h, ← q, e) at a.rest
+      step : (fault && (leaves_free b s.offset s.length && free)) ≡ segments_sound b 0 (from f 0 n)
+      unfolding fault free
+      step = rw (from_more f j n h, ← q, e, free-step b s (from f (j + 1) (n - (j + 1)))) at a.rest
 
-      pub fit_covered : (not b || clear_of field s.offset s.length) ≡ false → false ≡ segments_sound b field 0 (from f 0 n)
-      unfolding clear
-      fit_covered g = sym (field-taken b clear fault free g) ∙ step
+      pub fit_covered : leaves_free b s.offset s.length ≡ false → false ≡ segments_sound b 0 (from f 0 n)
+      fit_covered g = sym (and-false fault) ∙ rw g at step
 
-      pub fit_next : (not b || clear_of field s.offset s.length) ≡ true → Fitting b field f n (s.offset + s.length) (j + 1)
-      unfolding clear fault free
-      fit_next g = record { within = omega arith; rest = sym (field-free b clear fault free g) ∙ step }
-
-  pub fit-end : n ≤ j → true ≡ segments_sound b field 0 (from f 0 n)
-  fit-end h = go b (rw (from_end f j n h) at a.rest)
-    where
-      go : (c : Bool) → (not c || true) ≡ segments_sound b field 0 (from f 0 n) → true ≡ segments_sound b field 0 (from f 0 n)
-      go true e = e
-      go false e = e
+      pub fit_next : leaves_free b s.offset s.length ≡ true → Fitting b f n (s.offset + s.length) (j + 1)
+      unfolding fault free
+      fit_next g = record { within = omega arith; rest = rw g at step }
 
 -- ---- the meaning of a template's words, as its rules read it
 
@@ -104,32 +84,32 @@ module _ (t : List ℕ) where
   unfolding template_of
   id-of = refl
 
-  pub sum-of : (template_of t).sum ≡ sum_of (head_of t).checksum (head_of t).field (head_of t).start
+  pub sum-of : (template_of t).sum ≡ sum_of (head_of t).checksum
   unfolding template_of
   sum-of = refl
 
 -- ---- past its ID, a template has one fault: it breaks a rule
 
-abbrev ruled : Bool → Verdict
-ruled b = pick b Go (Stop PlanRule)
+abbrev ruled : Bool → Result Unit Refusal
+ruled b = pick b (Ok tt) (Err PlanRule)
 
 ruled-segments : (ended : ℕ) (ss : List Segment) → segments_fault ended ss ≡ ruled (goes (segments_fault ended ss))
 ruled-segments ended [] = refl
 ruled-segments ended (s ∷ ss) = go (segment_rule ended s.offset s.length) (segments_fault (s.offset + s.length) ss) (ruled-segments (s.offset + s.length) ss)
   where
-    go : (b : Bool) (v : Verdict) → v ≡ ruled (goes v) → stop_if (not b) PlanRule v ≡ ruled (goes (stop_if (not b) PlanRule v))
+    go : (b : Bool) (v : Result Unit Refusal) → v ≡ ruled (goes v) → stop_if (not b) PlanRule v ≡ ruled (goes (stop_if (not b) PlanRule v))
     go true v e = e
     go false v e = refl
 
-ruled-sum : (b : Bool) (field start : ℕ) (f : ℕ → Segment) (n : ℕ)
-    → sum_fault (sum_of b field start) (from f 0 n) ≡ ruled (pair_or b field start n && (not b || all_clear field (from f 0 n)))
-ruled-sum true field start f n = go (sum_rule field start && all_clear field (from f 0 n))
+ruled-sum : (b : Option Checksum) (f : ℕ → Segment) (n : ℕ)
+    → sum_fault (sum_of b) (from f 0 n) ≡ ruled (pair_or b n && all_free b (from f 0 n))
+ruled-sum (Some k) f n = go (sum_rule k.field k.start && all_clear k.field (from f 0 n))
   where
-    go : (c : Bool) → stop_if (not c) PlanRule Go ≡ ruled c
+    go : (c : Bool) → stop_if (not c) PlanRule (Ok tt) ≡ ruled c
     go true = refl
     go false = refl
-ruled-sum false field start f zero = refl
-ruled-sum false field start f (suc n) = rw (ne_eqb (suc n) 0 (λ e. omega arith))
+ruled-sum None f zero = refl
+ruled-sum None f (suc n) = rw (ne_eqb (suc n) 0 (λ e. omega arith))
 
 ruled_then : (a b : Bool) → (ruled a then ruled b) ≡ ruled (a && b)
 ruled_then true b = refl
@@ -141,42 +121,42 @@ between false true c = refl
 between false false c = refl
 
 module _ (previous : ℕ) (t : List ℕ) {h : Head} (q : h ≡ head_of t) where
-  pub template-id : id_rule previous h.id.0 ≡ false → Stop PlanContext ≡ template_fault previous (template_of t)
+  pub template-id : id_rule previous h.id.0 ≡ false → Err PlanContext ≡ template_fault previous (template_of t)
   unfolding template_fault
   template-id e = rw (id-of t, ← q, e)
 
   module _ (i : id_rule previous h.id.0 ≡ true) where
-    pub template-over : max_segments < h.count → Stop PlanRule ≡ template_fault previous (template_of t)
+    pub template-over : max_segments < h.count → Err PlanRule ≡ template_fault previous (template_of t)
     unfolding template_fault
     template-over k = rw (id-of t, length_pieces t, ← q, i, lt-ltb max_segments h.count k)
 
     module _ (k : h.count ≤ max_segments) where
       sound : Bool
-      sound = segments_sound h.checksum h.field 0 (from (segment_at t) 0 h.count)
+      sound = segments_sound h.checksum 0 (from (segment_at t) 0 h.count)
 
       parts : ruled (pair_sound h && sound) ≡ template_fault previous (template_of t)
       unfolding template_fault sound
       parts =
           let ss = from (segment_at t) 0 h.count in
-          let free = not h.checksum || all_clear h.field ss in
+          let free = all_free h.checksum ss in
           sym
           (rw (id-of t, length_pieces t, segments-of t, sum-of t, ← q, i, le-ltb max_segments h.count k)
-          (ap (λ (v : Verdict). v then sum_fault (sum_of h.checksum h.field h.start) ss) (ruled-segments 0 ss)
-          ∙ ap (λ (v : Verdict). ruled (goes (segments_fault 0 ss)) then v) (ruled-sum h.checksum h.field h.start (segment_at t) h.count)
+          (ap (λ (v : Result Unit Refusal). v then sum_fault (sum_of h.checksum) ss) (ruled-segments 0 ss)
+          ∙ ap (λ (v : Result Unit Refusal). ruled (goes (segments_fault 0 ss)) then v) (ruled-sum h.checksum (segment_at t) h.count)
           ∙ ruled_then (goes (segments_fault 0 ss)) (pair_sound h && free)
           ∙ ap ruled (between (goes (segments_fault 0 ss)) (pair_sound h) free)))
 
-      pub template_pair : pair_sound h ≡ false → Stop PlanRule ≡ template_fault previous (template_of t)
+      pub template_pair : pair_sound h ≡ false → Err PlanRule ≡ template_fault previous (template_of t)
       template_pair e = rw e at parts
 
       module _ (p : pair_sound h ≡ true) where
-        pub template-broken : segments_sound h.checksum h.field 0 (from (segment_at t) 0 h.count) ≡ false
-            → Stop PlanRule ≡ template_fault previous (template_of t)
+        pub template-broken : segments_sound h.checksum 0 (from (segment_at t) 0 h.count) ≡ false
+            → Err PlanRule ≡ template_fault previous (template_of t)
         unfolding sound
         template-broken e = rw (p, e) at parts
 
-        pub template-sound : segments_sound h.checksum h.field 0 (from (segment_at t) 0 h.count) ≡ true
-            → Go ≡ template_fault previous (template_of t)
+        pub template-sound : segments_sound h.checksum 0 (from (segment_at t) 0 h.count) ≡ true
+            → (Ok tt) ≡ template_fault previous (template_of t)
         unfolding sound
         template-sound e = rw (p, e) at parts
 
@@ -202,7 +182,7 @@ pub record Sounding (w : List ℕ) (previous i : ℕ) : Type 0 where
   pub rest : templates_fault previous (map template_of (from (words_at w) i (count_in w - i))) ≡ plan_fault (templates_of w)
 
 module _ (w : List ℕ) where
-  pub sound-over : max_templates < count_in w → Stop PlanContext ≡ plan_fault (templates_of w)
+  pub sound-over : max_templates < count_in w → Err PlanContext ≡ plan_fault (templates_of w)
   unfolding plan_fault
   sound-over h = rw (length_templates w, lt-ltb max_templates (count_in w) h)
 
@@ -211,15 +191,12 @@ module _ (w : List ℕ) where
   sound-start h = record { within = omega arith; rest = rw (length_templates w, le-ltb max_templates (count_in w) h, sub-zero, templates-by) }
 
 module _ {w : List ℕ} {previous i : ℕ} (s : Sounding w previous i) where
-  module _ {t : List ℕ} {v : Verdict} (b : i < count_in w) (p : t ≡ words_at w i) (e : v ≡ template_fault previous (template_of t)) where
+  module _ {t : List ℕ} {v : Result Unit Refusal} (b : i < count_in w) (p : t ≡ words_at w i) (e : v ≡ template_fault previous (template_of t)) where
     onward : (v then templates_fault (template_of t).id (map template_of (from (words_at w) (i + 1) (count_in w - (i + 1))))) ≡ plan_fault (templates_of w)
     onward = rw (e, p) (rw (from_more (words_at w) i (count_in w) b) at s.rest)
 
-    pub sound-broken : {why : Refusal} → v ≡ Stop why → Stop why ≡ plan_fault (templates_of w)
+    pub sound-broken : {why : Refusal} → v ≡ Err why → Err why ≡ plan_fault (templates_of w)
     sound-broken g = rw g at onward
 
-    pub sound-next : {h : Head} → h ≡ head_of t → v ≡ Go → Sounding w h.id.0 (i + 1)
+    pub sound-next : {h : Head} → h ≡ head_of t → v ≡ Ok tt → Sounding w h.id.0 (i + 1)
     sound-next q g = record { within = omega arith; rest = rw (q, ← id-of t) (rw g at onward) }
-
-  pub sound-end : count_in w ≤ i → Go ≡ plan_fault (templates_of w)
-  sound-end h = rw (from_end (words_at w) i (count_in w) h) at s.rest

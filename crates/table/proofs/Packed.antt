@@ -1,10 +1,10 @@
 -- The words that are packed of templates mean those templates, and what was read from a file is sound. Assumes nothing.
 use Prim.Native.Nat.{ℕ, zero, suc, ◌+◌, ◌%◌, ◌≤◌, ◌<◌}
 use mathlib.Core.Path.{◌≡◌, refl, sym, ap, ◌∙◌}
-use mathlib.Core.Bool.{true, not}
+use mathlib.Core.Bool.{true}
 use mathlib.Core.List.{List, [], ◌∷◌, ◌++◌, map, append_assoc}
 use native.Mathlib.Omega.{arith}
-use lib.Dec.{lit<, eqb}
+use lib.Dec.{lit<}
 use lib.ListN.{length, take, drop, get_or, replicate, length-append, length-drop, length-replicate}
 use lib.Seq.{length-take-le, drop-cons, take-append-le, take-take, take-add, drop_at, take_at, get_or-append-add}
 use Rattle.octets.specs.Big.{Bytes}
@@ -15,7 +15,7 @@ use Rattle.varint.specs.Numbers.{encode}
 use Rattle.table.specs.declared.Segment.{Segment}
 use Rattle.table.specs.Limits.{max_segments, static_limit}
 use Rattle.table.specs.Templates.{Piece, piece_end, segment_of, Sum, no_sum, sum_at, Template}
-use Rattle.table.specs.Words.{head_words, image_at, template_words, byte_at, segment_at, field_under, head_of, piece_of, sum_of, template_of, count_in, words_at, templates_of}
+use Rattle.table.specs.Words.{head_words, image_at, template_words, byte_at, segment_at, checksum_under, head_of, piece_of, sum_of, template_of, count_in, words_at, templates_of}
 use Rattle.table.specs.Words.{flag_word, field_word, start_word, segment_words, image_of, pack_template, pack_table}
 use Rattle.table.specs.Rules.{sound_templates}
 use Rattle.table.specs.File.{found, piece_bytes, pieces_bytes, sum_bytes, template_bytes, templates_bytes, plan_bytes, plan_in}
@@ -181,7 +181,7 @@ pieces-same t b (s ∷ ss) =
     in
     rw (e, pieces-same t b ss)
 
-sum_back : (k : Sum) → sum_of (not (eqb (flag_word k) 0)) (field_under (flag_word k) (field_word k)) (start_word k) ≡ k
+sum_back : (k : Sum) → sum_of (checksum_under (flag_word k) (field_word k) (start_word k)) ≡ k
 sum_back no_sum = refl
 sum_back (sum_at field start) = refl
 

@@ -1,12 +1,11 @@
 -- The loop of `paste`: the first i bytes are in the words. Assumes nothing.
 use Prim.Native.Nat.{ℕ, ◌+◌, ◌≤◌, ◌<◌}
-use mathlib.Core.Path.{◌≡◌, refl, ◌∙◌}
-use mathlib.Core.List.{List, append_assoc}
+use mathlib.Core.Path.{◌≡◌, ◌∙◌}
+use mathlib.Core.List.{List}
 use native.Mathlib.Numerals.{add-one}
 use native.Mathlib.Omega.{arith}
-use lib.ListN.{length, take, drop, get_or, set, length-set, length-drop}
-use lib.Seq.{paste, paste-zero, paste-suc, get_or-drop}
-use Rattle.octets.specs.Parts.{part, with_part}
+use lib.ListN.{length, drop, get_or, set, length-set, length-drop}
+use lib.Seq.{paste, paste-suc, get_or-drop}
 
 pub record Pasting (s : List ℕ) (start size place : ℕ) (t₀ t : List ℕ) (i : ℕ) : Type 0 where
   pub within : i ≤ size
@@ -14,9 +13,6 @@ pub record Pasting (s : List ℕ) (start size place : ℕ) (t₀ t : List ℕ) (
   pub same : t ≡ paste t₀ place (drop start s) i
 
 module _ (s : List ℕ) (start size place : ℕ) (t₀ : List ℕ) where
-  pub paste_start : Pasting s start size place t₀ t₀ 0
-  paste_start = record { within = omega arith; long = refl; same = paste-zero t₀ place (drop start s) }
-
   module _ {t : List ℕ} {i : ℕ} (p : Pasting s start size place t₀ t i) where
     pub paste_next : i < size → start + size ≤ length s → place + size ≤ length t₀
         → Pasting s start size place t₀ (set t (place + i) (get_or s (start + i) 0)) (i + 1)
@@ -29,8 +25,3 @@ module _ (s : List ℕ) (start size place : ℕ) (t₀ : List ℕ) where
           long = length-set t (place + i) (get_or s (start + i) 0) ∙ p.long;
           same = rw (p.same, ← d, add-one) (paste-suc t₀ place (drop start s) i 0 a b);
         }
-
-    pub paste_end : size ≤ i → t ≡ with_part t₀ place (place + size) (part s start size)
-    paste_end h =
-        let e : i ≡ size = omega arith in
-        p.same ∙ rw e (append_assoc (take place t₀) (take size (drop start s)) (drop (place + size) t₀))

@@ -8,7 +8,7 @@ use Rattle.octets.specs.Scan.{from}
 use Rattle.octets.proofs.Scans.{from_more, from_end}
 use Rattle.table.specs.declared.Segment.{Segment}
 use Rattle.table.specs.declared.Head.{Head}
-use Rattle.table.specs.Limits.{max_segments, static_limit}
+use Rattle.table.specs.Limits.{static_limit}
 use Rattle.table.specs.Templates.{Piece, piece_end, static_size}
 use Rattle.table.specs.Words.{segment_at, head_of, piece_of, template_of}
 use Rattle.table.specs.Sound.{Ascends, UsableTemplate}
@@ -56,6 +56,3 @@ module _ {t : List ℕ} {n total j : ℕ} (a : Adding t n total j) where
 
   pub adding_most : UsableTemplate t → total ≤ static_limit
   adding_most u = omega (arith, a.rest, static-most (template_of t).pieces 0 u.sound.ascends)
-
-pub few-segments : (t : List ℕ) {h : Head} → h ≡ head_of t → UsableTemplate t → h.count ≤ max_segments
-few-segments t q u = rw q u.few

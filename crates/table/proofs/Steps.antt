@@ -1,49 +1,35 @@
 -- The steps of reading, by the cases of the code, and what a step that finds something went through. Assumes nothing.
+use Rattle.std.proofs.Common.{Result, Ok, Err, Option, Some, None}
 use Prim.Native.Nat.{ℕ, ◌+◌, ◌-◌, ◌≤◌, ◌<◌}
 use mathlib.Core.Path.{◌≡◌, refl, sym, ap, ◌∙◌}
-use mathlib.Core.Bool.{Bool, true, false, ◌&&◌}
+use mathlib.Core.Bool.{true, false}
 use mathlib.Core.List.{List, [], ◌∷◌}
 use native.Mathlib.Nat.{sub-zero}
 use native.Mathlib.Numerals.{add-one}
 use native.Mathlib.Omega.{arith}
-use borrow.Author.Tests.{le-leb, lt-leb, eq-eqb, ne_eqb}
+use borrow.Author.Tests.{le-leb, lt-leb, ne_eqb}
 use lib.Dec.{leb, eqb}
-use lib.ListN.{length, take, drop, get_or, length-take, length-drop, drop_of_length-le}
-use lib.Seq.{drop-cons, drop-drop, get_or-take}
+use Rattle.std.proofs.lemmas.Bool.Decides.{nat_tests}
+use lib.ListN.{length, take, drop, get_or, length-drop, drop_of_length-le}
+use lib.Seq.{drop-cons, drop-drop}
+use lib.Pointwise.{pointwise}
 use Rattle.answer.specs.declared.Refusal.{Refusal}
 use Rattle.answer.specs.declared.Refusal.TheVariants.{PlanMark, PlanVersion, PlanCut, PlanRule, PlanNotShortest, PlanContext}
-use Rattle.answer.specs.declared.Verdict.{Verdict}
-use Rattle.answer.specs.declared.Verdict.TheVariants.{Go, Stop}
 use Rattle.octets.specs.Scan.{from}
+use Rattle.octets.specs.Parts.{part}
 use Rattle.octets.proofs.Parts.{tail}
-use Rattle.octets.proofs.Scans.{from_more, from_end}
-use Rattle.varint.specs.declared.NumberRead.{NumberRead}
-use Rattle.varint.specs.declared.NumberRead.TheVariants.{Whole, Cut}
-use Rattle.varint.specs.Numbers.{read_number, shortest}
+use Rattle.octets.proofs.Scans.{from_more}
+use Rattle.varint.specs.declared.Number.{Number}
+use Rattle.varint.specs.Numbers.{read_number, shortest, number}
 use Rattle.varint.proofs.Reading.{taken}
 use Rattle.table.specs.declared.Segment.{Segment}
 use Rattle.table.specs.declared.reading.NumberAt.{NumberAt}
 use Rattle.table.specs.declared.reading.TwoAt.{TwoAt}
-use Rattle.table.specs.declared.reading.SegmentAt.{SegmentAt}
-use Rattle.table.specs.declared.reading.ChecksumAt.{ChecksumAt}
 use Rattle.table.specs.Limits.{max_templates}
-use Rattle.table.specs.Templates.{Piece, Sum, no_sum, sum_at}
-use Rattle.table.specs.Rules.{segment_rule, clear_of, sum_rule, all_clear, none}
-use Rattle.table.specs.File.{Step, stop, found, mapped, mark, same_bytes, number_in, two_in, byte_in, bytes_in, piece_in, sum_in, plan_in}
-use Rattle.table.specs.Found.{told, NumberFound, TwoFound, PieceFound, SumFound, HeadFound, no_number_at, no_segment_at, no_checksum_at, pair_in}
-
--- ---- what a verdict tells
-
-module _ {A : Type 0} {step : Step A} where
-  pub told-go : {v : Verdict} {a : A} {s : List ℕ} → v ≡ Go → told v a s ≡ step → step ≡ found a s
-  told-go e h = sym (rw e at h)
-
-  pub told-stop : {v : Verdict} {w : Refusal} (a : A) (s : List ℕ) → v ≡ Stop w → told v a s ≡ step → step ≡ stop w
-  told-stop a s e h = sym (rw e at h)
-
-pub mapped-told : {A B : Type 0} (f : A → B) (v : Verdict) (a : A) (s : List ℕ) → mapped f (told v a s) ≡ told v (f a) s
-mapped-told f Go a s = refl
-mapped-told f (Stop w) a s = refl
+use Rattle.table.specs.Templates.{no_sum}
+use Rattle.table.specs.Rules.{segment_rule, clear_of, all_clear, none}
+use Rattle.table.specs.File.{stop, found, mark, same_bytes, number_in, two_in, byte_in, bytes_in, piece_in, sum_in, plan_in}
+use Rattle.table.specs.Found.{FoundAt, HeadFound, pair_in}
 
 -- ---- what stands at a place
 
@@ -56,81 +42,68 @@ module _ (s : List ℕ) (at : ℕ) where
 
 -- ---- a number
 
-module _ (s : List ℕ) (at : ℕ) where
-  pub number-stop : {step : Step ℕ} {r : NumberAt} {w : Refusal} → r ≡ no_number_at w → step ≡ stop w → NumberFound s step r
-  number-stop q e = rw q (record { within = omega arith; same = sym e })
+module _ (s : List ℕ) (at : ℕ) {r : Option Number} (q : r ≡ read_number (take (length s - at) (drop at s))) where
+  number_read : {t : Option Number} → r ≡ t → read_number (drop at s) ≡ t
+  number_read e = ap read_number (sym (tail at s)) ∙ sym q ∙ e
 
-  module _ {r : NumberRead} (q : r ≡ read_number (take (length s - at) (drop at s))) where
-    number_read : {t : NumberRead} → r ≡ t → read_number (drop at s) ≡ t
-    number_read e = ap read_number (sym (tail at s)) ∙ sym q ∙ e
+  pub number_cut : r ≡ None → number_in (drop at s) ≡ stop PlanCut
+  unfolding number_in
+  number_cut e = rw (number_read e)
 
-    pub number_cut : r ≡ Cut → number_in (drop at s) ≡ stop PlanCut
+  module _ {v n : ℕ} (e : r ≡ Some (number v n)) where
+    pub number-end : at ≤ length s → at + n ≤ length s
+    number-end h = let f : n ≤ length (drop at s) = (taken (drop at s) v n (number_read e)).within in omega (arith, length-drop at s)
+
+    pub number-long : shortest v n ≡ false → number_in (drop at s) ≡ stop PlanNotShortest
     unfolding number_in
-    number_cut e = rw (number_read e)
+    number-long f = rw (number_read e, f)
 
-    module _ {v n : ℕ} (e : r ≡ Whole v n) where
-      pub number-end : at ≤ length s → at + n ≤ length s
-      number-end h = let f : n ≤ length (drop at s) = (taken (drop at s) v n (number_read e)).within in omega (arith, length-drop at s)
-
-      pub number-long : shortest v n ≡ false → number_in (drop at s) ≡ stop PlanNotShortest
-      unfolding number_in
-      number-long f = rw (number_read e, f)
-
-      pub number-fine : {r : NumberAt} → at ≤ length s → shortest v n ≡ true → r ≡ record { verdict = Go; value = v; next = at + n }
-          → NumberFound s (number_in (drop at s)) r
-      unfolding number_in
-      number-fine h f g = rw g (record { within = number-end h; same = rw (number_read e, f, drop-drop n at s) })
+    pub number-fine : at ≤ length s → shortest v n ≡ true → FoundAt s (number_in (drop at s)) v (at + n)
+    unfolding number_in
+    number-fine h f = record { within = number-end h; same = rw (number_read e, f, drop-drop n at s) }
 
 -- ---- two numbers
 
-module _ (s : List ℕ) (at : ℕ) {one : NumberAt} (o : NumberFound s (number_in (drop at s)) one) where
-  pub two-stop : {w : Refusal} → one.verdict ≡ Stop w
-      → TwoFound s (two_in (drop at s)) (record { verdict = Stop w; first = 0; second = 0; next = 0 })
+module _ (s : List ℕ) (at : ℕ) where
+  pub two-stop : {w : Refusal} → number_in (drop at s) ≡ stop w → two_in (drop at s) ≡ stop w
   unfolding two_in
-  two-stop e = record { within = omega arith; same = rw (told-stop one.value (drop one.next s) e o.same) }
+  two-stop e = rw e
 
-  pub two-fine : {two : NumberAt} → one.verdict ≡ Go → NumberFound s (number_in (drop one.next s)) two
-      → TwoFound s (two_in (drop at s)) (record { verdict = two.verdict; first = one.value; second = two.value; next = two.next })
-  unfolding two_in
-  two-fine {two} e t =
-      record {
-        within = t.within;
-        same = rw (told-go e o.same, ← t.same)
-            (sym (mapped-told (λ (b : ℕ). (one.value, b)) two.verdict two.value (drop two.next s)));
-      }
+  module _ {one : NumberAt} (o : FoundAt s (number_in (drop at s)) one.value one.next) where
+    pub two-second : {w : Refusal} → number_in (drop one.next s) ≡ stop w → two_in (drop at s) ≡ stop w
+    unfolding two_in
+    two-second e = rw (o.same, e)
+
+    pub two-fine : {two : NumberAt} → FoundAt s (number_in (drop one.next s)) two.value two.next → FoundAt s (two_in (drop at s)) (one.value, two.value) two.next
+    unfolding two_in
+    two-fine t = record { within = t.within; same = rw (o.same, t.same) }
 
 -- ---- a segment
 
-pub piece_stop : (s : List ℕ) {step : Step Piece} {r : SegmentAt} {w : Refusal} → r ≡ no_segment_at w → step ≡ stop w → PieceFound s step r
-piece_stop s q e = rw q (record { within = omega arith; same = sym e })
-
-module _ (s : List ℕ) (at ended : ℕ) {two : TwoAt} (o : TwoFound s (two_in (drop at s)) two) where
-  pub piece_two : {w : Refusal} → two.verdict ≡ Stop w → piece_in ended (drop at s) ≡ stop w
+module _ (s : List ℕ) (at ended : ℕ) where
+  pub piece_two : {w : Refusal} → two_in (drop at s) ≡ stop w → piece_in ended (drop at s) ≡ stop w
   unfolding piece_in
-  piece_two e = rw (told-stop (two.first, two.second) (drop two.next s) e o.same)
+  piece_two e = rw e
 
-  module _ (e : two.verdict ≡ Go) where
+  module _ {two : TwoAt} (o : FoundAt s (two_in (drop at s)) (two.first, two.second) two.next) where
     pub piece_broken : segment_rule ended two.first two.second ≡ false → piece_in ended (drop at s) ≡ stop PlanRule
     unfolding piece_in
-    piece_broken f = rw (told-go e o.same, f)
+    piece_broken f = rw (o.same, f)
 
     module _ (f : segment_rule ended two.first two.second ≡ true) where
       pub piece_cut : length s - two.next < two.second → piece_in ended (drop at s) ≡ stop PlanCut
       unfolding piece_in bytes_in
-      piece_cut h = rw (told-go e o.same, f, length-drop two.next s, lt-leb two.second (length s - two.next) h)
+      piece_cut h = rw (o.same, f, length-drop two.next s, lt-leb two.second (length s - two.next) h)
 
-      pub piece_fine : {r : SegmentAt} → two.second ≤ length s - two.next
-          → r ≡ record { verdict = Go; offset = two.first; size = two.second; start = two.next }
-          → PieceFound s (piece_in ended (drop at s)) r
+      pub piece_fine : two.second ≤ length s - two.next
+          → FoundAt s (piece_in ended (drop at s)) (record { offset = two.first; bytes = part s two.next two.second }) (two.next + two.second)
       unfolding piece_in bytes_in
-      piece_fine h q =
+      piece_fine h =
           let w : two.next ≤ length s = o.within in
-          rw q
-          (record {
+          record {
             within = omega arith;
-            same = rw
-                (told-go e o.same, f, length-drop two.next s, le-leb two.second (length s - two.next) h, drop-drop two.second two.next s);
-          })
+            same = rw (o.same, f, length-drop two.next s, le-leb two.second (length s - two.next) h, drop-drop two.second two.next s);
+          }
 
 -- ---- the checksum
 
@@ -143,15 +116,6 @@ module _ (f : ℕ → Segment) (n : ℕ) where
       let h : 0 < n = omega (arith, e) in
       let m : from f 0 n ≡ f 0 ∷ from f 1 (n - 1) = rw sub-zero at (from_more f 0 n h) in
       rw m
-
-module _ (s : List ℕ) where
-  pub sum-stop : {step : Step Sum} {r : ChecksumAt} {w : Refusal} → r ≡ no_checksum_at (Stop w) 0 → step ≡ stop w → SumFound s step r
-  sum-stop q e =
-      rw q (record { sum = no_sum; within = omega arith; same = sym e; flag = refl; field = refl; start = refl })
-
-  pub sum-none : {step : Step Sum} {r : ChecksumAt} {n : ℕ} → r ≡ no_checksum_at Go n → n ≤ length s → step ≡ found no_sum (drop n s)
-      → SumFound s step r
-  sum-none q h e = rw q (record { sum = no_sum; within = h; same = sym e; flag = refl; field = refl; start = refl })
 
 module _ (s : List ℕ) (at : ℕ) (ss : List Segment) where
   pub flag-cut : length s ≤ at → sum_in ss (drop at s) ≡ stop PlanCut
@@ -176,60 +140,31 @@ module _ (s : List ℕ) (at : ℕ) (ss : List Segment) where
     unfolding sum_in
     flag_one e = rw (byte_at_lem s at h, e)
 
-and_fails : (a : Bool) → (a && false) ≡ false
-and_fails true = refl
-and_fails false = refl
-
-module _ (s : List ℕ) (at : ℕ) (ss : List Segment) {two : TwoAt} (o : TwoFound s (two_in (drop at s)) two) where
-  pub pair_two : {w : Refusal} → two.verdict ≡ Stop w → pair_in ss (drop at s) ≡ stop w
-  pair_two e = rw (told-stop (two.first, two.second) (drop two.next s) e o.same)
-
-  module _ (e : two.verdict ≡ Go) where
-    pub pair_broken : sum_rule two.first two.second ≡ false → pair_in ss (drop at s) ≡ stop PlanRule
-    pair_broken f = rw (told-go e o.same, f)
-
-    pub pair_covered : all_clear two.first ss ≡ false → pair_in ss (drop at s) ≡ stop PlanRule
-    pair_covered f = rw (told-go e o.same, f, and_fails (sum_rule two.first two.second))
-
-    pub pair_fine : {r : ChecksumAt} → sum_rule two.first two.second ≡ true → all_clear two.first ss ≡ true
-        → r ≡ record { verdict = Go; next = two.next; flag = 1; field = two.first; start = two.second }
-        → SumFound s (pair_in ss (drop at s)) r
-    pair_fine f g q =
-        rw q
-        (record {
-          sum = sum_at two.first two.second;
-          within = o.within;
-          same = rw (told-go e o.same, f, g);
-          flag = refl;
-          field = refl;
-          start = refl;
-        })
-
 -- the segments before j are clear of the field
 pub record Clearing (field : ℕ) (f : ℕ → Segment) (n j : ℕ) : Type 0 where
   pub within : j ≤ n
   pub rest : all_clear field (from f j (n - j)) ≡ all_clear field (from f 0 n)
 
-module _ (field : ℕ) (f : ℕ → Segment) (n : ℕ) where
-  pub clear : Clearing field f n 0
-  clear = record { within = omega arith; rest = rw sub-zero }
-
 module _ {field : ℕ} {f : ℕ → Segment} {n j : ℕ} (a : Clearing field f n j) where
-  pub clear-broken : {s : Segment} → j < n → s ≡ f j → clear_of field s.offset s.length ≡ false → false ≡ all_clear field (from f 0 n)
-  clear-broken h q e = rw (from_more f j n h, ← q, e) at a.rest
-
   pub clear_next : {s : Segment} → j < n → s ≡ f j → clear_of field s.offset s.length ≡ true → Clearing field f n (j + 1)
   clear_next h q e = record { within = omega arith; rest = rw (from_more f j n h, ← q, e) at a.rest }
 
-  pub clear-end : n ≤ j → true ≡ all_clear field (from f 0 n)
-  clear-end h = rw (from_end f j n h) at a.rest
-
 -- ---- the head of a file
 
+eqb_swap : (x y : ℕ) → eqb y x ≡ eqb x y
+eqb_swap x y = grind (arith, nat_tests)
+
+-- the library compares in the other order
+pub marked : (xs ys : List ℕ) → pointwise eqb ys xs ≡ same_bytes xs ys
+marked [] [] = refl
+marked [] (y ∷ ys) = refl
+marked (x ∷ xs) [] = refl
+marked (x ∷ xs) (y ∷ ys) = rw (eqb_swap x y, marked xs ys)
+
 module _ (s : List ℕ) where
-  pub head-stop : {w : Refusal} → plan_in s ≡ stop w → HeadFound s (Stop w)
+  pub head-stop : {w : Refusal} → plan_in s ≡ stop w → HeadFound s (Err w)
   head-stop {w} e =
-      let no : Stop w ≡ Go → ⊥ = λ f. let z : ◌≡◌ {A = ℕ} 0 1 = cc in omega arith in
+      let no : ◌≡◌ {A = Result Unit Refusal} (Err w) (Ok tt) → ⊥ = λ f. let z : ◌≡◌ {A = ℕ} 0 1 = cc in omega arith in
       record { same = e; long = λ f. absurd (no f); few = λ f. absurd (no f) }
 
   pub mark-cut : length s < 3 → plan_in s ≡ stop PlanCut
@@ -281,7 +216,7 @@ module _ (s : List ℕ) where
                   rw
                   (le-leb 3 (length s) h, e, length-drop 3 s, long, two_bytes, z, y, drop-drop 2 3 s, byte_at_lem s 5 k, lt-leb (get_or s 5 0) max_templates m)
 
-              pub head-fine : get_or s 5 0 ≤ max_templates → HeadFound s Go
+              pub head-fine : get_or s 5 0 ≤ max_templates → HeadFound s (Ok tt)
               unfolding plan_in bytes_in
               head-fine m =
                   record {
@@ -290,34 +225,3 @@ module _ (s : List ℕ) where
                     long = λ f. k;
                     few = λ f. m;
                   }
-
--- the loop of the mark: the bytes before i are the same
-pub record Marking (s m : List ℕ) (i : ℕ) : Type 0 where
-  pub within : i ≤ 3
-  pub rest : same_bytes (drop i (take 3 s)) (drop i m) ≡ same_bytes (take 3 s) m
-
-module _ (s m : List ℕ) where
-  pub mark-start : Marking s m 0
-  mark-start = record { within = omega arith; rest = refl }
-
-module _ {s m : List ℕ} {i : ℕ} (a : Marking s m i) (h : i < 3) (l : 3 ≤ length s) (k : length m ≡ 3) where
-  step : same_bytes (drop i (take 3 s)) (drop i m) ≡ (eqb (get_or s i 0) (get_or m i 0) && same_bytes (drop (i + 1) (take 3 s)) (drop (i + 1) m))
-  step =
-      let x : i < length (take 3 s) = simp length-take (omega arith) in
-      let y : i < length m = omega arith in
-      let z : get_or (take 3 s) i 0 ≡ get_or s i 0 = get_or-take 3 s i 0 h in
-      rw (drop-cons (take 3 s) i 0 x, drop-cons m i 0 y, z, add-one)
-
-  pub mark-other : (get_or s i 0 ≡ get_or m i 0 → ⊥) → false ≡ same_bytes (take 3 s) m
-  mark-other e = rw (ne_eqb (get_or s i 0) (get_or m i 0) e) at (sym step ∙ a.rest)
-
-  pub mark-next : get_or s i 0 ≡ get_or m i 0 → Marking s m (i + 1)
-  mark-next e = record { within = omega arith; rest = rw (eq-eqb (get_or s i 0) (get_or m i 0) e) at (sym step ∙ a.rest) }
-
-pub mark-end : {s m : List ℕ} {i : ℕ} → Marking s m i → 3 ≤ i → 3 ≤ length s → length m ≡ 3 → true ≡ same_bytes (take 3 s) m
-mark-end {s} {m} {i} a h l k =
-    let f : length (take 3 s) ≤ i = simp length-take (omega arith) in
-    let x : drop i (take 3 s) ≡ [] = drop_of_length-le (take 3 s) f in
-    let g : length m ≤ i = omega arith in
-    let y : drop i m ≡ [] = drop_of_length-le m g in
-    rw (x, y) at a.rest

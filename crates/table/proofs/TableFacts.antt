@@ -1,4 +1,6 @@
 -- What sound templates are, as facts, and what the code may rest on where the words of a table say them. Assumes nothing.
+use Rattle.std.proofs.Common.{Result, Ok, Err}
+use Rattle.std.specs.Result.{is_ok}
 use Prim.Native.Nat.{ℕ, zero, suc, ◌+◌, ◌≤◌, ◌<◌}
 use mathlib.Core.Path.{◌≡◌, refl}
 use mathlib.Core.Bool.{Bool, true, not, ◌&&◌}
@@ -6,12 +8,10 @@ use mathlib.Core.List.{List, [], ◌∷◌, map}
 use mathlib.Core.Logic.{⊎_elim}
 use native.Mathlib.Omega.{arith}
 use borrow.Author.Tests.{ltb-false, not-false, ne_eqb, lt-ltb}
-use lib.Dec.{eqb, ltb}
+use lib.Dec.{ltb}
 use lib.ListN.{length, get_or}
 use Rattle.answer.specs.declared.Refusal.{Refusal}
 use Rattle.answer.specs.declared.Refusal.TheVariants.{PlanRule, PlanContext}
-use Rattle.answer.specs.declared.Verdict.{Verdict}
-use Rattle.answer.specs.declared.Verdict.TheVariants.{Go, Stop}
 use Rattle.answer.specs.Verdict.{stop_if, ◌then◌}
 use Rattle.answer.proofs.Tables.{go_test, go-rest, then_first, then_second}
 use Rattle.answer.proofs.Tests.{and_both, order}
@@ -19,7 +19,7 @@ use Rattle.octets.specs.Scan.{from}
 use Rattle.table.specs.declared.Segment.{Segment}
 use Rattle.table.specs.Limits.{max_templates, max_segments, static_limit}
 use Rattle.table.specs.Templates.{Piece, segment_of, Sum, no_sum, sum_at, Template, segments_of}
-use Rattle.table.specs.Words.{segment_at, field_under, head_of, sum_of, template_of, count_in, words_at, templates_of}
+use Rattle.table.specs.Words.{segment_at, field_under, checksum_under, head_of, sum_of, template_of, count_in, words_at, templates_of}
 use Rattle.table.specs.Rules.{id_rule, segment_rule, clear_of, sum_rule, segments_fault, all_clear, sum_fault, template_fault, templates_fault, plan_fault, goes, sound_templates}
 use Rattle.table.specs.Sound.{Ascends, ClearOf, SumFacts, SoundSum, SoundTemplate, SoundTemplates, UsableTemplate, Usable}
 use Rattle.table.proofs.RuleCases.{id_facts, segment_facts, clear_facts, sum_facts}
@@ -27,12 +27,12 @@ use Rattle.table.proofs.Views.{field-good}
 use Rattle.table.proofs.Judging.{segments-of, length_pieces, length_templates, templates-by}
 
 -- where a test that is to hold is not refused, it holds
-pub held : (b : Bool) (r : Refusal) (v : Verdict) → stop_if (not b) r v ≡ Go → b ≡ true
+pub held : (b : Bool) (r : Refusal) (v : Result Unit Refusal) → stop_if (not b) r v ≡ Ok tt → b ≡ true
 held b r v e = not-false b (go_test (not b) r v e)
 
 -- ---- segments
 
-ascends : (ps : List Piece) (ended : ℕ) → ended ≤ static_limit → segments_fault ended (map segment_of ps) ≡ Go → Ascends ended ps
+ascends : (ps : List Piece) (ended : ℕ) → ended ≤ static_limit → segments_fault ended (map segment_of ps) ≡ Ok tt → Ascends ended ps
 unfolding Ascends
 ascends [] ended h e = h
 ascends (p ∷ ps) ended h e =
@@ -42,7 +42,7 @@ ascends (p ∷ ps) ended h e =
     (f.behind, ascends ps (p.offset + n) f.within (go-rest (not (segment_rule ended p.offset n)) PlanRule rest e))
 
 -- each of n segments from i on ends within the limit
-within : (f : ℕ → Segment) (i n ended : ℕ) → segments_fault ended (from f i n) ≡ Go → (j : ℕ) → i ≤ j → j < i + n
+within : (f : ℕ → Segment) (i n ended : ℕ) → segments_fault ended (from f i n) ≡ Ok tt → (j : ℕ) → i ≤ j → j < i + n
     → (f j).offset + (f j).length ≤ static_limit
 within f i zero ended e j a b = absurd (omega arith)
 within f i (suc n) ended e j a b =
@@ -63,10 +63,10 @@ clear field (p ∷ ps) e =
     let a = and_both (clear_of field p.offset (length p.bytes)) (all_clear field (map segment_of ps)) e in
     (clear_facts field p.offset (length p.bytes) a.0, clear field ps a.1)
 
-summed : (k : Sum) (ps : List Piece) → sum_fault k (map segment_of ps) ≡ Go → SoundSum k ps
+summed : (k : Sum) (ps : List Piece) → sum_fault k (map segment_of ps) ≡ Ok tt → SoundSum k ps
 summed no_sum ps e = tt
 summed (sum_at field start) ps e =
-    let a = and_both (sum_rule field start) (all_clear field (map segment_of ps)) (held (sum_rule field start && all_clear field (map segment_of ps)) PlanRule Go e) in
+    let a = and_both (sum_rule field start) (all_clear field (map segment_of ps)) (held (sum_rule field start && all_clear field (map segment_of ps)) PlanRule (Ok tt) e) in
     let f = sum_facts field start a.0 in
     record { low = f.least; order = f.behind; high = f.within; even = f.even; clear = clear field ps a.1 }
 
@@ -76,11 +76,11 @@ pub record TemplateFacts (previous : ℕ) (t : Template) : Type 0 where
   pub ruled : id_rule previous t.id ≡ true
   pub above : previous < t.id
   pub few : length t.pieces ≤ max_segments
-  pub segments : segments_fault 0 (segments_of t) ≡ Go
-  pub summing : sum_fault t.sum (segments_of t) ≡ Go
+  pub segments : segments_fault 0 (segments_of t) ≡ Ok tt
+  pub summing : sum_fault t.sum (segments_of t) ≡ Ok tt
   pub sound : SoundTemplate t
 
-pub template_facts : (previous : ℕ) (t : Template) → template_fault previous t ≡ Go → TemplateFacts previous t
+pub template_facts : (previous : ℕ) (t : Template) → template_fault previous t ≡ Ok tt → TemplateFacts previous t
 unfolding template_fault
 template_facts previous t e =
     let n = length t.pieces in
@@ -108,19 +108,19 @@ template_facts previous t e =
 
 -- ---- templates
 
-sound-each : (ts : List Template) (previous : ℕ) → templates_fault previous ts ≡ Go → SoundTemplates previous ts
+sound-each : (ts : List Template) (previous : ℕ) → templates_fault previous ts ≡ Ok tt → SoundTemplates previous ts
 unfolding SoundTemplates
 sound-each [] previous e = tt
 sound-each (t ∷ ts) previous e =
     let f = template_facts previous t (then_first (template_fault previous t) (templates_fault t.id ts) e) in
     (f.above, (f.sound, sound-each ts t.id (then_second (template_fault previous t) (templates_fault t.id ts) e)))
 
-pub went : (v : Verdict) → goes v ≡ true → v ≡ Go
-went Go e = refl
-went (Stop r) e = let z : ◌≡◌ {A = ℕ} 0 1 = cc in absurd (omega arith)
+pub went : (v : Result Unit Refusal) → goes v ≡ true → v ≡ Ok tt
+went (Ok _) e = refl
+went (Err r) e = let z : ◌≡◌ {A = ℕ} 0 1 = cc in absurd (omega arith)
 
 module _ (ts : List Template) (sound : sound_templates ts ≡ true) where
-  no-fault : plan_fault ts ≡ Go
+  no-fault : plan_fault ts ≡ Ok tt
   unfolding sound_templates
   no-fault = went (plan_fault ts) sound
 
@@ -128,7 +128,7 @@ module _ (ts : List Template) (sound : sound_templates ts ≡ true) where
   unfolding plan_fault
   sound-few = ltb-false max_templates (length ts) (go_test (ltb max_templates (length ts)) PlanContext (templates_fault 0 ts) no-fault)
 
-  pub sound-go : templates_fault 0 ts ≡ Go
+  pub sound-go : templates_fault 0 ts ≡ Ok tt
   unfolding plan_fault
   sound-go = go-rest (ltb max_templates (length ts)) PlanContext (templates_fault 0 ts) no-fault
 
@@ -137,17 +137,17 @@ sound-templates ts sound = sound-each ts 0 (sound-go ts sound)
 
 -- ---- a table
 
-usable : (previous : ℕ) (t : List ℕ) → template_fault previous (template_of t) ≡ Go → UsableTemplate t
+usable : (previous : ℕ) (t : List ℕ) → template_fault previous (template_of t) ≡ Ok tt → UsableTemplate t
 usable previous t e =
     let f = template_facts previous (template_of t) e in
-    let a : segments_fault 0 (from (segment_at t) 0 (head_of t).count) ≡ Go = rw (← segments-of t) f.segments in
+    let a : segments_fault 0 (from (segment_at t) 0 (head_of t).count) ≡ (Ok tt) = rw (← segments-of t) f.segments in
     record {
       few = omega (arith, f.few, length_pieces t);
       within = λ j h. within (segment_at t) 0 (head_of t).count 0 a j (omega arith) (omega arith);
       sound = f.sound;
     }
 
-usable_at : (f : ℕ → List ℕ) (i n previous : ℕ) → templates_fault previous (map template_of (from f i n)) ≡ Go → (j : ℕ) → i ≤ j → j < i + n
+usable_at : (f : ℕ → List ℕ) (i n previous : ℕ) → templates_fault previous (map template_of (from f i n)) ≡ Ok tt → (j : ℕ) → i ≤ j → j < i + n
     → UsableTemplate (f j)
 usable_at f i zero previous e j a b = absurd (omega arith)
 usable_at f i (suc n) previous e j a b =
@@ -160,7 +160,7 @@ usable_at f i (suc n) previous e j a b =
 
 pub table_usable : (w : List ℕ) → sound_templates (templates_of w) ≡ true → Usable w
 table_usable w sound =
-    let g : templates_fault 0 (map template_of (from (words_at w) 0 (count_in w))) ≡ Go = rw (← templates-by w) (sound-go (templates_of w) sound) in
+    let g : templates_fault 0 (map template_of (from (words_at w) 0 (count_in w))) ≡ (Ok tt) = rw (← templates-by w) (sound-go (templates_of w) sound) in
     record {
       few = omega (arith, sound-few (templates_of w) sound, length_templates w);
       all = λ i h. usable_at (words_at w) 0 (count_in w) 0 g i (omega arith) (omega arith);
@@ -171,17 +171,22 @@ pub none-sound : (w : List ℕ) → count_in w ≡ 0 → true ≡ sound_template
 unfolding sound_templates plan_fault templates_of
 none-sound w e = rw e
 
+-- what the library says of an answer
+pub goes_ok : (r : Result Unit Refusal) → is_ok r ≡ goes r
+goes_ok (Ok _) = refl
+goes_ok (Err w) = refl
+
 -- ---- the flag of a checksum
 
 -- under a flag above 1 the field is 0, which lies before every start
-flag-over : (flag field start : ℕ) (ps : List Piece) → 1 < flag → SoundSum (sum_of (not (eqb flag 0)) (field_under flag field) start) ps
+flag-over : (flag field start : ℕ) (ps : List Piece) → 1 < flag → SoundSum (sum_of (checksum_under flag field start)) ps
     → field ≡ field_under flag field
 flag-over flag field start ps h s =
     let f : SumFacts 0 start ps = rw (ne_eqb flag 0 (λ e. omega arith), lt-ltb 1 flag h) at s in
     absurd (omega (arith, f.low, f.order))
 
 -- so the field of words that may be used is the one that stands there
-pub usable-field : (t : List ℕ) → UsableTemplate t → get_or t 3 0 ≡ (head_of t).field
+pub usable-field : (t : List ℕ) → UsableTemplate t → get_or t 3 0 ≡ field_under (get_or t 2 0) (get_or t 3 0)
 unfolding head_of template_of
 usable-field t u =
     ⊎_elim (λ h. flag-over (get_or t 2 0) (get_or t 3 0) (get_or t 4 0) (template_of t).pieces h u.sound.summed)

@@ -1,10 +1,9 @@
 -- The plan file: the mark `VAN`, a 16-bit version 1, the count of templates; for each its Context ID, its segments with their bytes, its checksum.
-use Rattle.std.specs.Prelude.{ℕ, zero, suc, Bool, true, false, not, ◌&&◌, List, [], ◌∷◌, ◌++◌, map, leb, eqb, length, take, drop}
+use Rattle.std.specs.Prelude.{ℕ, zero, suc, Bool, true, false, not, ◌&&◌, List, [], ◌∷◌, ◌++◌, map, leb, eqb, length, take, drop, Option, Some, None}
 use Rattle.answer.specs.declared.Refusal.{Refusal}
 use Rattle.answer.specs.declared.Refusal.TheVariants.{PlanMark, PlanVersion, PlanCut, PlanRule, PlanNotShortest, PlanContext}
 use Rattle.answer.specs.Choice.{pick}
-use Rattle.varint.specs.declared.NumberRead.{NumberRead}
-use Rattle.varint.specs.declared.NumberRead.TheVariants.{Whole, Cut}
+use Rattle.varint.specs.declared.Number.{Number}
 use Rattle.varint.specs.Numbers.{read_number, encode, shortest}
 use Rattle.table.specs.declared.Segment.{Segment}
 use Rattle.table.specs.Templates.{Piece, piece_end, segment_of, Sum, no_sum, sum_at, Template}
@@ -61,9 +60,9 @@ abbrev pub holding : {A : Type 0} → Bool → Refusal → Step A → Step A
 holding true r next = next
 holding false r next = stop r
 
-abbrev pub shortest_in : List ℕ → NumberRead → Step ℕ
-shortest_in s (Whole v n) = holding (shortest v n) PlanNotShortest (found v (drop n s))
-shortest_in s Cut = stop PlanCut
+abbrev pub shortest_in : List ℕ → Option Number → Step ℕ
+shortest_in s (Some q) = holding (shortest q.value q.size) PlanNotShortest (found q.value (drop q.size s))
+shortest_in s None = stop PlanCut
 
 -- a number in its shortest form
 unfoldable pub number_in : List ℕ → Step ℕ

@@ -4,6 +4,7 @@ pub mod Rules
 pub mod Words
 pub mod Tests
 pub mod Sound
+pub mod Props
 pub mod File
 pub mod Load
 pub mod Found

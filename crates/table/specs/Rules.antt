@@ -1,9 +1,8 @@
 -- The rules of templates, in the order of their file. The first fault is the verdict: of templates to be written it is the refusal, and templates
 -- handed in are sound where there is none.
-use Rattle.std.specs.Prelude.{ℕ, ◌+◌, ◌-◌, ◌%◌, Bool, true, false, not, ◌&&◌, ◌||◌, List, [], ◌∷◌, leb, ltb, eqb, length}
+use Rattle.std.specs.Prelude.{ℕ, ◌+◌, ◌-◌, ◌%◌, Bool, true, false, not, ◌&&◌, ◌||◌, List, [], ◌∷◌, leb, ltb, eqb, length, Result, Ok, Err}
+use Rattle.answer.specs.declared.Refusal.{Refusal}
 use Rattle.answer.specs.declared.Refusal.TheVariants.{PlanRule, PlanContext, NoRoom}
-use Rattle.answer.specs.declared.Verdict.{Verdict}
-use Rattle.answer.specs.declared.Verdict.TheVariants.{Go, Stop}
 use Rattle.answer.specs.Verdict.{stop_if, ◌then◌}
 use Rattle.varint.specs.Numbers.{limit}
 use Rattle.table.specs.declared.Segment.{Segment}
@@ -32,8 +31,8 @@ sum_rule field start = leb 20 start && (leb start field && (leb (field + 2) stat
 
 -- ---- of templates
 
-abbrev pub segments_fault : ℕ → List Segment → Verdict
-segments_fault ended [] = Go
+abbrev pub segments_fault : ℕ → List Segment → Result Unit Refusal
+segments_fault ended [] = (Ok tt)
 segments_fault ended (s ∷ ss) = stop_if (not (segment_rule ended s.offset s.length)) PlanRule (segments_fault (s.offset + s.length) ss)
 
 abbrev pub all_clear : ℕ → List Segment → Bool
@@ -45,32 +44,32 @@ none [] = true
 none (s ∷ ss) = false
 
 -- without a checksum there is a segment at least
-abbrev pub sum_fault : Sum → List Segment → Verdict
-sum_fault no_sum ss = stop_if (none ss) PlanRule Go
-sum_fault (sum_at field start) ss = stop_if (not (sum_rule field start && all_clear field ss)) PlanRule Go
+abbrev pub sum_fault : Sum → List Segment → Result Unit Refusal
+sum_fault no_sum ss = stop_if (none ss) PlanRule (Ok tt)
+sum_fault (sum_at field start) ss = stop_if (not (sum_rule field start && all_clear field ss)) PlanRule (Ok tt)
 
 -- of a template behind one of the ID `previous`, or 0
-unfoldable pub template_fault : ℕ → Template → Verdict
+unfoldable pub template_fault : ℕ → Template → Result Unit Refusal
 template_fault previous t =
     stop_if (not (id_rule previous t.id)) PlanContext
     (stop_if (ltb max_segments (length t.pieces)) PlanRule
     (segments_fault 0 (segments_of t) then sum_fault t.sum (segments_of t)))
 
-abbrev pub templates_fault : ℕ → List Template → Verdict
-templates_fault previous [] = Go
+abbrev pub templates_fault : ℕ → List Template → Result Unit Refusal
+templates_fault previous [] = (Ok tt)
 templates_fault previous (t ∷ ts) = template_fault previous t then templates_fault t.id ts
 
 -- the first fault of templates, in the order of their file
-unfoldable pub plan_fault : List Template → Verdict
+unfoldable pub plan_fault : List Template → Result Unit Refusal
 plan_fault ts = stop_if (ltb max_templates (length ts)) PlanContext (templates_fault 0 ts)
 
-abbrev pub goes : Verdict → Bool
-goes Go = true
-goes (Stop r) = false
+abbrev pub goes : Result Unit Refusal → Bool
+goes (Ok _) = true
+goes (Err r) = false
 
 unfoldable pub sound_templates : List Template → Bool
 sound_templates ts = goes (plan_fault ts)
 
 -- why templates are not written to an output of so many bytes
-unfoldable pub plan_verdict : List Template → ℕ → Verdict
+unfoldable pub plan_verdict : List Template → ℕ → Result Unit Refusal
 plan_verdict ts n = stop_if (ltb n plan_room) NoRoom (plan_fault ts)

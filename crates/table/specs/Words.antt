@@ -1,11 +1,12 @@
 -- Templates in words. Word 0 of a table is the count of templates, and each template has its words after it: a head of five (Context ID, count of
 -- segments, 1 with a checksum and 0 without, field, start), two for each segment, and an image of a packet's first bytes, a byte in each word.
 -- What stands past a count, and a byte outside all segments, means nothing: it is 0 where the box makes it, and ignored in what is handed in.
-use Rattle.std.specs.Prelude.{ℕ, zero, suc, ◌+◌, ◌*◌, ◌%◌, Bool, true, false, not, List, [], ◌∷◌, ◌++◌, map, eqb, ltb, length, take, drop, get_or, replicate}
+use Rattle.std.specs.Prelude.{ℕ, zero, suc, ◌+◌, ◌*◌, ◌%◌, Option, Some, None, List, [], ◌∷◌, ◌++◌, map, eqb, ltb, length, take, drop, get_or, replicate}
 use Rattle.answer.specs.Choice.{pick}
 use Rattle.octets.specs.Parts.{part}
 use Rattle.octets.specs.Scan.{from}
 use Rattle.table.specs.declared.Segment.{Segment}
+use Rattle.table.specs.declared.Checksum.{Checksum}
 use Rattle.table.specs.declared.Head.{Head}
 use Rattle.table.specs.Limits.{max_templates, max_segments, static_limit}
 use Rattle.table.specs.Templates.{Piece, piece_end, Sum, no_sum, sum_at, Template}
@@ -42,14 +43,16 @@ byte_at t p = get_or t (image_at + p) 0 % 256
 abbrev pub field_under : ℕ → ℕ → ℕ
 field_under flag field = pick (ltb 1 flag) 0 field
 
+-- what three words say of a checksum
+abbrev pub checksum_under : ℕ → ℕ → ℕ → Option Checksum
+checksum_under flag field start = pick (eqb flag 0) None (Some (record { field = field_under flag field; start = start }))
+
 unfoldable pub head_of : List ℕ → Head
 head_of t =
     record {
       id = record { 0 = get_or t 0 0 };
       count = get_or t 1 0;
-      checksum = not (eqb (get_or t 2 0) 0);
-      field = field_under (get_or t 2 0) (get_or t 3 0);
-      start = get_or t 4 0;
+      checksum = checksum_under (get_or t 2 0) (get_or t 3 0) (get_or t 4 0);
     }
 
 -- the static bytes of n positions from k on
@@ -59,16 +62,16 @@ window t k n = from (byte_at t) k n
 abbrev pub piece_of : List ℕ → Segment → Piece
 piece_of t s = record { offset = s.offset; bytes = window t s.offset s.length }
 
-abbrev pub sum_of : Bool → ℕ → ℕ → Sum
-sum_of true field start = sum_at field start
-sum_of false field start = no_sum
+abbrev pub sum_of : Option Checksum → Sum
+sum_of (Some c) = sum_at c.field c.start
+sum_of None = no_sum
 
 unfoldable pub template_of : List ℕ → Template
 template_of t =
     record {
       id = (head_of t).id.0;
       pieces = map (piece_of t) (from (segment_at t) 0 (head_of t).count);
-      sum = sum_of (head_of t).checksum (head_of t).field (head_of t).start;
+      sum = sum_of (head_of t).checksum;
     }
 
 -- ---- a table: w is its words

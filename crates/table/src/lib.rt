@@ -8,16 +8,17 @@
 mod judge; // judge.rt: the first fault of the templates of a table
 mod reading; // reading.rt: a plan file read into words
 mod rules; // rules.rt: the rules of a Context ID, a segment and a checksum
+mod template; // template.rt: a template that was judged
 
 ghost use Rattle.std.specs.Prelude.{◌≡◌, ◌<◌, ◌≤◌, length};
-ghost use Rattle.table.specs.Limits.{max_segments, static_limit};
-ghost use Rattle.table.specs.Templates.{static_size};
-ghost use Rattle.table.specs.Words.{template_words, head_of, segment_at, byte_at, field_under, template_of};
+ghost use Rattle.table.specs.Limits.{max_segments};
+ghost use Rattle.table.specs.Words.{template_words, head_of, segment_at, field_under};
 ghost use Rattle.table.specs.Sound.{UsableTemplate};
 
 pub use judge::{table_fault, table_sound};
 pub use reading::read_plan;
 pub use rules::{clear_of, id_rule, segment_rule, sum_rule};
+pub use template::{Template, template_at};
 
 pub const MAX_TEMPLATES: usize = 8;
 
@@ -50,14 +51,19 @@ pub struct Segment {
     pub length: usize,
 }
 
+// Where the field of a checksum stands, and where its sum starts.
+#[derive(Clone, Copy)]
+pub struct Checksum {
+    pub field: usize,
+    pub start: usize,
+}
+
 // What a template says beside its segments and static bytes.
 #[derive(Clone, Copy)]
 pub struct Head {
     pub id: ContextId,
     pub count: usize,
-    pub checksum: bool,
-    pub field: usize,
-    pub start: usize,
+    pub checksum: Option<Checksum>,
 }
 
 // The head of the template whose words are t.
@@ -68,15 +74,13 @@ pub fn head_of(t: &[u64]) -> Head
     let id = ContextId(t[0]);
     let count = t[1] as usize;
     let flag = t[2];
-    let checksum = flag != 0;
     let field = field_under(flag, t[3] as usize);
     let start = t[4] as usize;
+    let checksum = (flag != 0).then_some(Checksum { field, start });
     Head {
         id,
         count,
         checksum,
-        field,
-        start,
     }
 }
 
@@ -88,15 +92,13 @@ pub fn judged_head(t: &[u64]) -> Head
 {
     let id = ContextId(t[0]);
     let count = t[1] as usize;
-    let checksum = t[2] != 0;
     let field = t[3] as usize;
     let start = t[4] as usize;
+    let checksum = (t[2] != 0).then_some(Checksum { field, start });
     Head {
         id,
         count,
         checksum,
-        field,
-        start,
     }
 }
 
@@ -104,10 +106,7 @@ pub fn judged_head(t: &[u64]) -> Head
 fn field_under(flag: u64, field: usize) -> usize
     ensures { result ≡ field_under flag field }
 {
-    if 1 < flag {
-        return 0;
-    }
-    field
+    if 1 < flag { 0 } else { field }
 }
 
 // Its segment j.
@@ -120,30 +119,4 @@ pub fn segment_at(t: &[u64], j: usize) -> Segment
     let offset = t[at] as usize;
     let length = t[at + 1] as usize;
     Segment { offset, length }
-}
-
-// How many static bytes it holds.
-pub fn static_size(t: &[u64]) -> usize
-    requires template_words_in_bounds { template_words ≤ length t.now }
-    requires usable_template { UsableTemplate t.now }
-    ensures { (result ≡ static_size (template_of t.now).pieces) × (result ≤ static_limit) }
-{
-    let n = judged_head(t).count;
-    let mut size: usize = 0;
-    let mut j: usize = 0;
-    while j < n {
-        let s = segment_at(t, j);
-        size += s.length;
-        j += 1;
-    }
-    size
-}
-
-// Its static byte of position p.
-pub fn byte_at(t: &[u64], p: usize) -> u8
-    requires template_words_in_bounds { template_words ≤ length t.now }
-    requires p_lt_static_limit { p < static_limit }
-    ensures { result ≡ byte_at t.now p }
-{
-    (t[IMAGE_AT + p] % 256) as u8
 }

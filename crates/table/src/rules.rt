@@ -9,42 +9,21 @@ use crate::STATIC_LIMIT;
 pub fn id_rule(previous: u64, id: u64) -> bool
     ensures { result ≡ id_rule previous id }
 {
-    if id <= previous {
-        return false;
-    }
-    id < varint::LIMIT
+    previous < id && id < varint::LIMIT
 }
 
 // A segment is at least 1 long, starts where the one before it ended or later, and ends within the limit.
 pub fn segment_rule(ended: usize, offset: usize, size: usize) -> bool
     ensures { result ≡ segment_rule ended offset size }
 {
-    if size < 1 {
-        return false;
-    }
-    if offset < ended {
-        return false;
-    }
-    if STATIC_LIMIT < offset {
-        return false;
-    }
-    size <= STATIC_LIMIT - offset
+    1 <= size && ended <= offset && offset <= STATIC_LIMIT && size <= STATIC_LIMIT - offset
 }
 
 // 20 <= start <= field <= 126, and an even number of bytes between them.
 pub fn sum_rule(field: usize, start: usize) -> bool
     ensures { result ≡ sum_rule field start }
 {
-    if start < 20 {
-        return false;
-    }
-    if field < start {
-        return false;
-    }
-    if STATIC_LIMIT - 2 < field {
-        return false;
-    }
-    (field - start) % 2 == 0
+    20 <= start && start <= field && field <= STATIC_LIMIT - 2 && (field - start) % 2 == 0
 }
 
 // The two bytes of a field lie before a segment or behind it.
@@ -52,7 +31,8 @@ pub fn clear_of(field: usize, offset: usize, size: usize) -> bool
     ensures { result ≡ clear_of field offset size }
 {
     if field < offset {
-        return 2 <= offset - field;
+        2 <= offset - field
+    } else {
+        size <= field - offset
     }
-    size <= field - offset
 }

@@ -2,13 +2,14 @@
 use Prim.Native.Nat.{ℕ, ◌+◌, ◌-◌, ◌≤◌, ◌<◌}
 use mathlib.Core.Path.{◌≡◌, refl, ap, sym, ◌∙◌}
 use mathlib.Core.List.{List, [], ◌∷◌, ◌++◌, append_assoc}
-use mathlib.Core.Bool.{true, false}
 use native.Mathlib.Omega.{arith}
 use lib.ListN.{length, take, drop, length-drop, length-append}
 use lib.Seq.{take-append-le, drop-append-le}
+use Rattle.std.proofs.Common.{Some, None}
 use Rattle.inet.specs.Transport.{set_field, finish}
 use Rattle.inet.proofs.FieldLaws.{put_take, put_append}
 use Rattle.table.specs.Words.{template_of, head_of}
+use Rattle.table.specs.declared.Checksum.{Checksum}
 use Rattle.table.specs.declared.Head.{Head}
 use Rattle.table.specs.Sound.{Ascends}
 use Rattle.table.specs.Templates.{Piece, piece_end, static_size}
@@ -37,11 +38,11 @@ weave_append : (ps : List Piece) (v w : List ℕ) → Ascends 0 ps → last_end 
 weave_append ps v w up h = weave_append_from ps 0 v w up (omega arith)
 
 module _ (t v : List ℕ) where
-  rebuilt-plain : (head_of t).checksum ≡ false → rebuilt (template_of t) v ≡ weave 0 (pieces_of t) v
+  rebuilt-plain : (head_of t).checksum ≡ None → rebuilt (template_of t) v ≡ weave 0 (pieces_of t) v
   unfolding rebuilt template_of
   rebuilt-plain e = rw e
 
-  rebuilt-sum : (head_of t).checksum ≡ true → rebuilt (template_of t) v ≡ set_field (head_of t).field (finish (head_of t).start (weave 0 (pieces_of t) v)) (weave 0 (pieces_of t) v)
+  rebuilt-sum : {k : Checksum} → (head_of t).checksum ≡ Some k → rebuilt (template_of t) v ≡ set_field k.field (finish k.start (weave 0 (pieces_of t) v)) (weave 0 (pieces_of t) v)
   unfolding rebuilt template_of
   rebuilt-sum e = rw e
 
@@ -52,7 +53,7 @@ module _ (t v far : List ℕ) {n : ℕ} (ready : Rebuildable t v far n) where
       omega (arith, reaches_end t (v ++ far) ready.reach, length-append v far, end-limit (pieces_of t) 0 ready.usable.sound.ascends, ready.front)
 
   -- and so does the field
-  front-field : (head_of t).checksum ≡ true → (head_of t).field + 2 ≤ static_size (pieces_of t) + length v
+  front-field : {k : Checksum} → (head_of t).checksum ≡ Some k → k.field + 2 ≤ static_size (pieces_of t) + length v
   front-field f =
       omega (arith, reaches_field t (v ++ far) ready.reach f, length-append v far, (sum_facts t ready.usable.sound f).high, ready.front)
 
@@ -70,51 +71,51 @@ module _ (t v far : List ℕ) {n : ℕ} (ready : Rebuildable t v far n) where
     total = omega (arith, size, length-append v far, length_rebuilt (template_of t) (v ++ far))
 
     module _ {head : Head} (known : head ≡ head_of t) where
-      pub completable : n ≤ length out → head.checksum ≡ true → Completable head.field head.start r far out
-      completable h e =
-          let f : (head_of t).checksum ≡ true = rw known at e in
+      pub completable : {k : Checksum} → n ≤ length out → head.checksum ≡ Some k → Completable k.field k.start r far out
+      completable {k} h e =
+          let f : (head_of t).checksum ≡ Some k = rw known at e in
           let s = sum_facts t ready.usable.sound f in
-          rw known (record {
+          record {
             low = omega (arith, s.low);
             order = s.order;
             inside = omega (arith, size, front-field f);
             room = omega (arith, size, ready.small);
             small = omega (arith, size, ready.summable);
-          })
+          }
 
       -- without a checksum
-      pub continues_plain : head.checksum ≡ false → Continues (rebuilt (template_of t) (v ++ far)) far out r
+      pub continues_plain : head.checksum ≡ None → Continues (rebuilt (template_of t) (v ++ far)) far out r
       continues_plain e =
           record { size = total; whole = ap (λ (x : List ℕ). x ++ far) b.front ∙ sym (rebuilt-plain t (v ++ far) (rw known at e) ∙ woven) }
 
       -- with one
-      pub continues_sum : {out' : List ℕ} → head.checksum ≡ true → out' ≡ set_field head.field (finish head.start (take r out ++ far)) out → Continues (rebuilt (template_of t) (v ++ far)) far out' r
-      continues_sum {out'} e q =
-          let f : (head_of t).checksum ≡ true = rw known at e in
+      pub continues_sum : {k : Checksum} {out' : List ℕ} → head.checksum ≡ Some k → out' ≡ set_field k.field (finish k.start (take r out ++ far)) out → Continues (rebuilt (template_of t) (v ++ far)) far out' r
+      continues_sum {k} {out'} e q =
+          let f : (head_of t).checksum ≡ Some k = rw known at e in
           let w = weave 0 (pieces_of t) v in
-          let x = (head_of t).field in
-          let c = finish (head_of t).start (w ++ far) in
+          let x = k.field in
+          let c = finish k.start (w ++ far) in
           let l : x + 1 < r = omega (arith, size, front-field f) in
-          let k : x + 1 < length w = omega (arith, b.size) in
+          let m : x + 1 < length w = omega (arith, b.size) in
           let s : rebuilt (template_of t) (v ++ far) ≡ set_field x c (w ++ far) =
-          rebuilt-sum t (v ++ far) f ∙ ap (λ (y : List ℕ). set_field x (finish (head_of t).start y) y) woven
+          rebuilt-sum t (v ++ far) f ∙ ap (λ (y : List ℕ). set_field x (finish k.start y) y) woven
           in
           let g : take r out' ≡ set_field x c w =
-          ap (take r) (rw known at q) ∙ put_take out x (finish (head_of t).start (take r out ++ far)) r l
-          ∙ ap (λ (y : List ℕ). set_field x (finish (head_of t).start (y ++ far)) y) b.front
+          ap (take r) q ∙ put_take out x (finish k.start (take r out ++ far)) r l
+          ∙ ap (λ (y : List ℕ). set_field x (finish k.start (y ++ far)) y) b.front
           in
-          record { size = total; whole = ap (λ (y : List ℕ). y ++ far) g ∙ sym (s ∙ put_append w x c far k) }
+          record { size = total; whole = ap (λ (y : List ℕ). y ++ far) g ∙ sym (s ∙ put_append w x c far m) }
 
 -- a number in the field of a template with a checksum
 module _ (t p : List ℕ) (v : ℕ) {head : Head} (known : head ≡ head_of t) where
-  pub filled-plain : head.checksum ≡ false → p ≡ filled (template_of t).sum v p
+  pub filled-plain : head.checksum ≡ None → p ≡ filled (template_of t).sum v p
   unfolding template_of
   filled-plain e = rw (rw known at e)
 
-  pub filled-sum : {q : List ℕ} → head.checksum ≡ true → q ≡ set_field head.field v p → q ≡ filled (template_of t).sum v p
+  pub filled-sum : {k : Checksum} {q : List ℕ} → head.checksum ≡ Some k → q ≡ set_field k.field v p → q ≡ filled (template_of t).sum v p
   unfolding template_of
-  filled-sum e g = rw (rw known at e) (rw known at g)
+  filled-sum e g = rw (rw known at e) g
 
-  pub fillable_inside : Fillable t v p → head.checksum ≡ true → head.field + 2 ≤ length p
+  pub fillable_inside : {k : Checksum} → Fillable t v p → head.checksum ≡ Some k → k.field + 2 ≤ length p
   unfolding template_of
-  fillable_inside s e = rw known (rw (rw known at e) at s.inside)
+  fillable_inside s e = rw (rw known at e) at s.inside

@@ -1,4 +1,5 @@
 -- `opened` by its cases, in the order of its tests. Assumes nothing.
+use Rattle.std.proofs.Common.{Some, None}
 use Prim.Native.Nat.{ℕ, ◌+◌, ◌≤◌, ◌<◌}
 use mathlib.Core.Path.{◌≡◌}
 use mathlib.Core.Logic.{◌≢◌}
@@ -8,8 +9,7 @@ use native.Mathlib.Omega.{arith}
 use lib.ListN.{length, drop}
 use borrow.Author.Tests.{le-leb, lt-leb, ne_eqb}
 use Rattle.answer.specs.declared.Refusal.TheVariants.{UnknownContext, CutDatagram, PacketTooLong}
-use Rattle.varint.specs.declared.NumberRead.TheVariants.{Whole, Cut}
-use Rattle.varint.specs.Numbers.{read_number}
+use Rattle.varint.specs.Numbers.{read_number, number}
 use Rattle.table.specs.Templates.{Template, static_size}
 use Rattle.template.specs.Fits.{missing, listed, with_id}
 use Rattle.template.specs.Datagrams.{max_packet, rebuilt, reaches, packet, refused, opened}
@@ -17,20 +17,20 @@ use Rattle.template.proofs.RebuildLaws.{length_rebuilt}
 
 module _ (ts : List Template) (d : List ℕ) where
   -- the Context ID is cut
-  pub opened-cut : read_number d ≡ Cut → opened ts d ≡ refused CutDatagram
+  pub opened-cut : read_number d ≡ None → opened ts d ≡ refused CutDatagram
   unfolding opened
   opened-cut e = rw e
 
   -- Context ID 0: the packet follows
-  pub opened-full : (n : ℕ) → read_number d ≡ Whole 0 n → length (drop n d) ≤ max_packet → opened ts d ≡ packet (drop n d)
+  pub opened-full : (n : ℕ) → read_number d ≡ Some (number 0 n) → length (drop n d) ≤ max_packet → opened ts d ≡ packet (drop n d)
   unfolding opened
   opened-full n e h = rw (e, le-leb (length (drop n d)) max_packet h)
 
-  pub opened_full-long : (n : ℕ) → read_number d ≡ Whole 0 n → max_packet < length (drop n d) → opened ts d ≡ refused PacketTooLong
+  pub opened_full-long : (n : ℕ) → read_number d ≡ Some (number 0 n) → max_packet < length (drop n d) → opened ts d ≡ refused PacketTooLong
   unfolding opened
   opened_full-long n e h = rw (e, lt-leb (length (drop n d)) max_packet h)
 
-  module _ (id n : ℕ) (e : read_number d ≡ Whole id n) (some : id ≢ 0) where
+  module _ (id n : ℕ) (e : read_number d ≡ Some (number id n)) (some : id ≢ 0) where
     pub opened-unknown : with_id id ts ≡ missing → opened ts d ≡ refused UnknownContext
     unfolding opened
     opened-unknown f = rw (e, ne_eqb id 0 some, f)

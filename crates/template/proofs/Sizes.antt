@@ -7,11 +7,13 @@ use native.Mathlib.Omega.{arith}
 use lib.ListN.{length}
 use lib.Dec.{leb}
 use borrow.Author.Tests.{le-leb, lt-leb, leb-true}
+use Rattle.std.proofs.Common.{Some, None}
 use Rattle.answer.proofs.Tests.{and_both}
 use Rattle.table.specs.Limits.{static_limit}
 use Rattle.table.specs.Sound.{Ascends, UsableTemplate}
 use Rattle.table.specs.Templates.{Piece, piece_end, static_size}
 use Rattle.table.specs.Words.{window, segment_at, template_of, head_of}
+use Rattle.table.specs.declared.Checksum.{Checksum}
 use Rattle.table.specs.declared.Head.{Head}
 use Rattle.table.specs.declared.Segment.{Segment}
 use Rattle.template.specs.Pieces.{last_end}
@@ -35,8 +37,8 @@ pub segment_within : (t : List ℕ) → UsableTemplate t → (j : ℕ) {s : Segm
 segment_within t u j h e = rw e (u.within j h)
 
 -- and so does a field
-pub field-within : (t : List ℕ) → UsableTemplate t → {head : Head} → head ≡ head_of t → head.checksum ≡ true → head.field + 2 ≤ static_limit
-field-within t u q e = rw q (sum_facts t u.sound (rw q at e)).high
+pub field-within : (t : List ℕ) → UsableTemplate t → {head : Head} {k : Checksum} → head ≡ head_of t → head.checksum ≡ Some k → k.field + 2 ≤ static_limit
+field-within t u q e = (sum_facts t u.sound (rw q at e)).high
 
 module _ (t : List ℕ) (j n : ℕ) (h : j < n) where
   pub static_step : static_size (pieces_from t j (n - j)) ≡ (segment_at t j).length + static_size (pieces_from t (j + 1) (n - (j + 1)))
@@ -81,11 +83,11 @@ module _ (t : List ℕ) {n : ℕ} where
   pub reaches-short : n < last_end 0 (pieces_of t) → reaches_at (template_of t) n ≡ false
   reaches-short h = rw (lt-leb _ _ h)
 
-  pub reaches-sum : {head : Head} → head ≡ head_of t → last_end 0 (pieces_of t) ≤ n → head.checksum ≡ true → reaches_at (template_of t) n ≡ leb (head.field + 2) n
+  pub reaches-sum : {head : Head} {k : Checksum} → head ≡ head_of t → last_end 0 (pieces_of t) ≤ n → head.checksum ≡ Some k → reaches_at (template_of t) n ≡ leb (k.field + 2) n
   unfolding template_of
-  reaches-sum q h e = rw q (rw (le-leb _ _ h, rw q at e))
+  reaches-sum q h e = rw (le-leb _ _ h, rw q at e)
 
-  pub reaches-plain : {head : Head} → head ≡ head_of t → last_end 0 (pieces_of t) ≤ n → head.checksum ≡ false → reaches_at (template_of t) n ≡ true
+  pub reaches-plain : {head : Head} → head ≡ head_of t → last_end 0 (pieces_of t) ≤ n → head.checksum ≡ None → reaches_at (template_of t) n ≡ true
   unfolding template_of
   reaches-plain q h e = rw (le-leb _ _ h, rw q at e) (le-leb 0 n (omega arith))
 
@@ -99,9 +101,9 @@ module _ (t v : List ℕ) where
   unfolding reaches
   reaches_end e = leb-true _ _ (and_both _ _ e).0
 
-  pub reaches_field : reaches (template_of t) v ≡ true → (head_of t).checksum ≡ true → (head_of t).field + 2 ≤ static_size (pieces_of t) + length v
+  pub reaches_field : {k : Checksum} → reaches (template_of t) v ≡ true → (head_of t).checksum ≡ Some k → k.field + 2 ≤ static_size (pieces_of t) + length v
   unfolding reaches template_of
-  reaches_field e f =
+  reaches_field {k} e f =
       let n = static_size (pieces_of t) + length v in
       let g = and_both (leb (last_end 0 (pieces_of t)) n) (leb (sum_end (template_of t).sum) n) e in
-      leb-true ((head_of t).field + 2) n (rw f at g.1)
+      leb-true (k.field + 2) n (rw f at g.1)

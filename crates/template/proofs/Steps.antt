@@ -1,21 +1,21 @@
 -- One step of each definition, at the code's index. Assumes nothing.
-use Prim.Native.Nat.{ℕ, zero, suc, ◌+◌, ◌-◌, ◌*◌, ◌≤◌, ◌<◌}
+use Prim.Native.Nat.{ℕ, zero, suc, ◌+◌, ◌-◌, ◌≤◌, ◌<◌}
 use mathlib.Core.Path.{◌≡◌, sym, ap, ◌∙◌}
 use mathlib.Core.List.{List, [], ◌∷◌, map}
 use mathlib.Core.Bool.{Bool, true, false, ◌&&◌, and_assoc}
 use native.Mathlib.Numerals.{add-one}
 use native.Mathlib.Omega.{arith}
-use lib.ListN.{length, take, drop, get_or, length-take, length-drop}
+use lib.ListN.{length, get_or}
 use lib.Seq.{drop-cons}
 use lib.Dec.{eqb}
 use borrow.Author.Tests.{le-leb, lt-leb, eq-eqb, ne_eqb}
+use Rattle.std.proofs.Common.{Some, None}
 use Rattle.octets.specs.Scan.{from}
 use Rattle.octets.proofs.Scans.{from_more, from_end, length_from}
-use Rattle.table.specs.Sound.{SumFacts, SoundTemplate, UsableTemplate, Usable}
+use Rattle.table.specs.declared.Checksum.{Checksum}
+use Rattle.table.specs.Sound.{SumFacts, SoundTemplate}
 use Rattle.table.specs.Templates.{Piece, sum_at}
-use Rattle.table.specs.Limits.{max_templates}
-use Rattle.table.specs.Words.{template_words, table_words, window, piece_of, segment_at, template_of, count_in, words_at, byte_at, head_of}
-use Rattle.table.proofs.Judging.{words-at}
+use Rattle.table.specs.Words.{window, piece_of, segment_at, template_of, words_at, byte_at, head_of}
 use Rattle.table.proofs.InTurn.{templates_from, templates-step, templates-done}
 use Rattle.template.specs.Pieces.{fits_pieces}
 use Rattle.template.specs.Fits.{fits_sum, fits, full, short, first_fit, with_id, listed, missing}
@@ -100,35 +100,23 @@ module _ (t p : List ℕ) where
   unfit_pieces e = rw e
 
   -- the segments fit, and there is no checksum
-  pub fit-plain : fits_pieces (pieces_of t) p ≡ true → (head_of t).checksum ≡ false → fits (template_of t) p ≡ true
+  pub fit-plain : fits_pieces (pieces_of t) p ≡ true → (head_of t).checksum ≡ None → fits (template_of t) p ≡ true
   unfolding fits template_of
   fit-plain e f = rw (e, f)
 
   -- the segments fit, and the checksum decides
-  pub fit-sum : (b : Bool) → fits_pieces (pieces_of t) p ≡ true → (head_of t).checksum ≡ true → fits_sum (sum_at (head_of t).field (head_of t).start) p ≡ b → fits (template_of t) p ≡ b
+  pub fit-sum : (b : Bool) {k : Checksum} → fits_pieces (pieces_of t) p ≡ true → (head_of t).checksum ≡ Some k → fits_sum (sum_at k.field k.start) p ≡ b → fits (template_of t) p ≡ b
   unfolding fits template_of
   fit-sum b e f g = rw (e, f) g
 
-pub sum_facts : (t : List ℕ) → SoundTemplate (template_of t) → (head_of t).checksum ≡ true → SumFacts (head_of t).field (head_of t).start (pieces_of t)
+pub sum_facts : (t : List ℕ) {k : Checksum} → SoundTemplate (template_of t) → (head_of t).checksum ≡ Some k → SumFacts k.field k.start (pieces_of t)
 unfolding template_of
 sum_facts t s e = rw e at s.summed
 
-pub sum-place : (t : List ℕ) → SoundTemplate (template_of t) → (head_of t).checksum ≡ true → SumPlace (head_of t).field (head_of t).start
+pub sum-place : (t : List ℕ) {k : Checksum} → SoundTemplate (template_of t) → (head_of t).checksum ≡ Some k → SumPlace k.field k.start
 sum-place t s e = let f = sum_facts t s e in record { low = f.low; order = f.order; high = f.high; even = f.even }
 
 -- ---- the templates of a table
-
--- `&table[from..end]`, from the place of template i on
-abbrev pub words_from : List ℕ → ℕ → List ℕ
-words_from w i = take (1 + i * template_words + template_words - (1 + i * template_words)) (drop (1 + i * template_words) w)
-
--- it is all there
-pub words_length : (w : List ℕ) (i : ℕ) → table_words ≤ length w → i < max_templates → template_words ≤ length (words_from w i)
-words_length w i h k = simp (length-take, length-drop) (omega arith)
-
--- and usable, in a usable table
-pub words-usable : (w : List ℕ) (i : ℕ) → Usable w → i < count_in w → UsableTemplate (words_from w i)
-words-usable w i u h = rw (words-at w i) (u.all i h)
 
 -- the search for a template that fits
 module _ (w : List ℕ) (p : List ℕ) (i n : ℕ) where

@@ -1,10 +1,9 @@
 -- The short form and the full form of a packet, and the packet that a datagram stands for.
-use Rattle.std.specs.Prelude.{ℕ, ◌+◌, Bool, ◌&&◌, List, ◌++◌, leb, eqb, length, drop}
+use Rattle.std.specs.Prelude.{ℕ, ◌+◌, Bool, ◌&&◌, List, ◌++◌, leb, eqb, length, drop, Option, Some, None}
 use Rattle.answer.specs.declared.Refusal.{Refusal}
 use Rattle.answer.specs.declared.Refusal.TheVariants.{UnknownContext, CutDatagram, PacketTooLong}
 use Rattle.answer.specs.Choice.{pick}
-use Rattle.varint.specs.declared.NumberRead.{NumberRead}
-use Rattle.varint.specs.declared.NumberRead.TheVariants.{Whole, Cut}
+use Rattle.varint.specs.declared.Number.{Number}
 use Rattle.varint.specs.Numbers.{read_number, encode}
 use Rattle.inet.specs.Transport.{seed, set_field, finish}
 use Rattle.table.specs.Templates.{Sum, no_sum, sum_at, Template, static_size}
@@ -74,9 +73,9 @@ open_short v (listed t) = pick (reaches t v) (within_limit (rebuilt t v)) (refus
 abbrev pub open_body : List Template → ℕ → List ℕ → Opened
 open_body ts id v = pick (eqb id 0) (within_limit v) (open_short v (with_id id ts))
 
-abbrev pub after_id : List Template → List ℕ → NumberRead → Opened
-after_id ts d (Whole id n) = open_body ts id (drop n d)
-after_id ts d Cut = refused CutDatagram
+abbrev pub after_id : List Template → List ℕ → Option Number → Opened
+after_id ts d (Some q) = open_body ts q.value (drop q.size d)
+after_id ts d None = refused CutDatagram
 
 unfoldable pub opened : List Template → List ℕ → Opened
 opened ts d = after_id ts d (read_number d)

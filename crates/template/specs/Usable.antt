@@ -1,15 +1,12 @@
 -- What the code asks of a table and what it hands back.
-use Rattle.std.specs.Prelude.{ℕ, ◌+◌, ◌-◌, ◌%◌, ◌≤◌, ◌<◌, min, ◌≡◌, Bool, true, ◌&&◌, List, ◌++◌, leb, length, take, drop}
+use Rattle.std.specs.Prelude.{ℕ, ◌+◌, ◌-◌, ◌%◌, ◌≤◌, ◌<◌, min, ◌≡◌, Bool, true, ◌&&◌, List, Option, Some, None, ◌++◌, leb, length, take, drop}
 use Rattle.inet.specs.Packet.{Form, lowered}
 use Rattle.inet.specs.Transport.{seed, set_field}
 use Rattle.table.specs.Limits.{static_limit}
 use Rattle.table.specs.Templates.{Piece, Sum, no_sum, sum_at, Template, static_size}
 use Rattle.table.specs.Words.{window, template_of, count_in, words_at, templates_of}
 use Rattle.table.specs.Sound.{UsableTemplate}
-use Rattle.template.specs.declared.Found.{Found}
-use Rattle.template.specs.declared.Found.TheVariants.{At, Nothing}
 use Rattle.template.specs.declared.Fit.{Fit}
-use Rattle.template.specs.declared.Fit.TheVariants.{By, None}
 use Rattle.template.specs.Pieces.{begins, last_end}
 use Rattle.template.specs.Fits.{full, short, first_fit, Lookup, missing, listed}
 use Rattle.template.specs.Datagrams.{sum_end, reaches}
@@ -32,21 +29,21 @@ pub record ChosenAt (w p : List ℕ) (i v : ℕ) : Type 0 where
   pub seeding : v ≡ seed_of (template_of (words_at w i)).sum p
 
 -- the search found what it should for the packet p
-abbrev pub Chosen : List ℕ → List ℕ → Fit → Type 0
-Chosen w p (By i v) = ChosenAt w p i v
+abbrev pub Chosen : List ℕ → List ℕ → Option Fit → Type 0
+Chosen w p (Some f) = ChosenAt w p f.place f.seed
 Chosen w p None = first_fit (templates_of w) p ≡ full
 
 -- the template that the search for a Context ID found
-abbrev pub lookup_at : List ℕ → Found → Lookup
-lookup_at w (At i) = listed (template_of (words_at w i))
-lookup_at w Nothing = missing
+abbrev pub lookup_at : List ℕ → Option ℕ → Lookup
+lookup_at w (Some i) = listed (template_of (words_at w i))
+lookup_at w None = missing
 
-abbrev pub Below : ℕ → Found → Type 0
-Below n (At i) = i < n
-Below n Nothing = Unit
+abbrev pub Below : ℕ → Option ℕ → Type 0
+Below n (Some i) = i < n
+Below n None = Unit
 
 -- it found what it should, at a place in use
-pub record Listed (w : List ℕ) (l : Lookup) (r : Found) : Type 0 where
+pub record Listed (w : List ℕ) (l : Lookup) (r : Option ℕ) : Type 0 where
   pub lookup : lookup_at w r ≡ l
   pub within : Below (count_in w) r
 

@@ -2,14 +2,14 @@
 ghost use Rattle.std.specs.Prelude.{◌≡◌, ◌≤◌, ◌+◌, length};
 ghost use Rattle.inet.specs.Transport.{seed, completion};
 ghost use Rattle.table.specs.Templates.{sum_at};
-ghost use Rattle.table.specs.Words.{template_words, template_of};
+ghost use Rattle.table.specs.Words.{template_of};
 ghost use Rattle.template.specs.Fits.{fits_sum};
 ghost use Rattle.template.specs.Usable.{Testable, SumPlace, Fillable, filled};
 
 use inet::field::{field_is, put_word};
 use inet::packet::{byte_at, protocol_byte};
 use inet::sum::{folded, sum_bytes, word};
-use table::judged_head;
+use table::Template;
 
 // Whether the field holds the right checksum. The seed is handed in, since what is sent holds it too.
 pub(crate) fn sum_fits(packet: &[u8], field: usize, start: usize, first: u64) -> bool
@@ -23,14 +23,12 @@ pub(crate) fn sum_fits(packet: &[u8], field: usize, start: usize, first: u64) ->
 }
 
 // Puts the seed into the field of a template, where it has a checksum: the field lies in a packet's front.
-pub fn put_seed(t: &[u64], first: u64, front: &mut [u8])
-    requires template_words_in_bounds { template_words ≤ length t.now }
-    requires fillable { Fillable t.now first front.old }
-    ensures { front.new ≡ filled (template_of t.now).sum first front.old }
+pub fn put_seed(t: Template<'_>, first: u64, front: &mut [u8])
+    requires { Fillable t.words.now first front.old }
+    ensures { front.new ≡ filled (template_of t.entry.words.now).sum first front.old }
 {
-    let head = judged_head(t);
-    if head.checksum {
-        put_word(front, head.field, first);
+    if let Some(sum) = t.head().checksum {
+        put_word(front, sum.field, first);
     }
 }
 
@@ -47,10 +45,9 @@ fn completion(packet: &[u8], field: usize, start: usize, first: u64) -> u64
     let all = sum_bytes(&packet[start..]);
     // 65535 counts as 0 in a sum that folds: so `own` is taken away without asking whether it is in `all`
     let v = 65535 - folded(all + (65535 - own) + first);
-    if v == 0 {
-        if protocol_byte(packet) == 17 {
-            return 65535;
-        }
+    if v == 0 && protocol_byte(packet) == 17 {
+        65535
+    } else {
+        v
     }
-    v
 }

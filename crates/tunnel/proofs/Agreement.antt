@@ -1,11 +1,11 @@
 -- Short and full agree: the laws behind the third demand, all of them corollaries of `open_datagram`. Assumes nothing.
+use Rattle.std.proofs.Common.{Ok}
 use Prim.Native.Nat.{ℕ, ◌≤◌}
 use mathlib.Core.Path.{◌≡◌, refl, sym, ap, ◌∙◌}
 use mathlib.Core.Bool.{true}
 use mathlib.Core.List.{List}
 use native.Mathlib.Omega.{arith}
 use lib.ListN.{length}
-use Rattle.answer.specs.declared.Verdict.TheVariants.{Go}
 use Rattle.answer.specs.Verdict.{first_of, ◌then◌}
 use Rattle.inet.specs.Packet.{lowered}
 use Rattle.inet.specs.Transport.{damaged}
@@ -65,7 +65,7 @@ module _ (s : State) (p : List ℕ) (n : ℕ) (g : SendGo s p n) (s' : State) (t
           templates = ap sound_templates t ∙ f.templates;
         })
 
-    pub mirrored_go : (k : ℕ) → receive_room ≤ k → receive_verdict s' (sent_bytes s p) k ≡ Go
+    pub mirrored_go : (k : ℕ) → receive_room ≤ k → receive_verdict s' (sent_bytes s p) k ≡ Ok tt
     mirrored_go k h =
         go_receive s' (sent_bytes s p) k
         (record {

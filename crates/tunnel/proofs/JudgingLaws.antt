@@ -1,4 +1,5 @@
 -- The two sides of a state, picked by where they stand, what they grant to a packet, and the judge's table. Assumes nothing.
+use Rattle.std.proofs.Common.{Ok, Err}
 use Prim.Native.Nat.{ℕ, ◌+◌, ◌-◌, ◌≤◌}
 use mathlib.Core.Path.{◌≡◌, refl, sym, ap, ◌∙◌}
 use mathlib.Core.Bool.{Bool, true, false, ◌&&◌}
@@ -8,7 +9,6 @@ use lib.Dec.{ltb}
 use lib.ListN.{length, take, drop}
 use Rattle.answer.specs.Choice.{pick}
 use Rattle.answer.specs.declared.Refusal.TheVariants.{BadForm, HopLimit, NotGranted}
-use Rattle.answer.specs.declared.Verdict.TheVariants.{Go, Stop}
 use Rattle.answer.specs.Verdict.{first_of}
 use Rattle.octets.specs.Parts.{part}
 use Rattle.octets.proofs.Parts.{is-part, length_part}
@@ -96,21 +96,21 @@ granted_joined b s front tail a e q = q ∙ ap (grants b s) (flow_joined front t
 -- ---- down the judge's table
 
 module _ (b : Bool) (s : State) (p : List ℕ) where
-  pub judge-bad : form p ≡ false → Stop BadForm ≡ first_of (judge_tests b s p)
+  pub judge-bad : form p ≡ false → Err BadForm ≡ first_of (judge_tests b s p)
   unfolding judge_tests
   judge-bad e = rw e
 
   module _ (e : form p ≡ true) {t : Bool} (f : t ≡ (b && ltb (hops_of p) 2)) where
-    pub judge_spent : t ≡ true → Stop HopLimit ≡ first_of (judge_tests b s p)
+    pub judge_spent : t ≡ true → Err HopLimit ≡ first_of (judge_tests b s p)
     unfolding judge_tests
     judge_spent k = rw (e, sym f ∙ k)
 
     module _ (k : t ≡ false) {r : Bool} (g : r ≡ grants b s (flow_of p)) where
-      pub judge_denied : r ≡ false → Stop NotGranted ≡ first_of (judge_tests b s p)
+      pub judge_denied : r ≡ false → Err NotGranted ≡ first_of (judge_tests b s p)
       unfolding judge_tests
       judge_denied h = rw (e, sym f ∙ k, sym g ∙ h)
 
-      pub judge-go : r ≡ true → Go ≡ first_of (judge_tests b s p)
+      pub judge-go : r ≡ true → (Ok tt) ≡ first_of (judge_tests b s p)
       unfolding judge_tests
       judge-go h = rw (e, sym f ∙ k, sym g ∙ h)
 

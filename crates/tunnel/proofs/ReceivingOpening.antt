@@ -1,4 +1,5 @@
 -- What each step of opening a datagram gives. Assumes nothing.
+use Rattle.std.proofs.Common.{Option, Some, None}
 use Prim.Native.Nat.{ℕ, ◌+◌, ◌-◌, ◌≤◌, ◌<◌, min}
 use mathlib.Core.Path.{◌≡◌, sym, ap, ◌∙◌}
 use mathlib.Core.Logic.{◌≢◌}
@@ -10,14 +11,11 @@ use lib.ListN.{length, take, drop, length-take, length-drop, length-append, take
 use lib.Seq.{length-take-le}
 use Rattle.octets.proofs.Parts.{tail}
 use Rattle.answer.specs.declared.Refusal.TheVariants.{UnknownContext, CutDatagram, PacketTooLong}
-use Rattle.varint.specs.declared.NumberRead.TheVariants.{Whole}
-use Rattle.varint.specs.Numbers.{read_number}
-use Rattle.table.specs.Limits.{max_templates, static_limit}
+use Rattle.varint.specs.Numbers.{read_number, number}
+use Rattle.table.specs.Limits.{static_limit}
 use Rattle.table.specs.Templates.{Template, static_size}
 use Rattle.table.specs.Words.{template_of, count_in, words_at}
-use Rattle.table.specs.Sound.{UsableTemplate, Usable}
-use Rattle.template.specs.declared.Found.{Found}
-use Rattle.template.specs.declared.Found.TheVariants.{At, Nothing}
+use Rattle.table.specs.Sound.{UsableTemplate}
 use Rattle.template.specs.Fits.{Lookup, listed, with_id}
 use Rattle.template.specs.Datagrams.{max_packet, rebuilt, reaches, refused, packet, within_limit, open_short, opened}
 use Rattle.template.specs.Usable.{pieces_of, lookup_at, Listed, Continues}
@@ -102,28 +100,20 @@ module _ (t v far : List ℕ) {image : List ℕ} {n : ℕ} (k : Continues (rebui
       }
 
 -- the template with the Context ID, or none
-module _ (w : List ℕ) (l : Lookup) {r : Found} (k : Listed w l r) where
-  pub none-listed : (v : List ℕ) → r ≡ Nothing → open_short v l ≡ refused UnknownContext
+module _ (w : List ℕ) (l : Lookup) {r : Option ℕ} (k : Listed w l r) where
+  pub none-listed : (v : List ℕ) → r ≡ None → open_short v l ≡ refused UnknownContext
   none-listed v e = ap (open_short v) (sym k.lookup ∙ ap (lookup_at w) e)
 
-  module _ (i : ℕ) (e : r ≡ At i) where
+  module _ (i : ℕ) (e : r ≡ Some i) where
     pub found_below : i < count_in w
     found_below = rw e at k.within
 
-    pub found-few : Usable w → i < max_templates
-    found-few u = omega (arith, found_below, u.few)
-
-    -- t is its words, as they are cut out
-    module _ {t : List ℕ} (q : t ≡ words_at w i) where
-      pub found-usable : Usable w → UsableTemplate t
-      found-usable u = rw q (u.all i found_below)
-
-      pub found-listed : l ≡ listed (template_of t)
-      found-listed = rw q (sym k.lookup ∙ ap (lookup_at w) e)
+    pub found-listed : {t : List ℕ} → t ≡ words_at w i → l ≡ listed (template_of t)
+    found-listed q = rw q (sym k.lookup ∙ ap (lookup_at w) e)
 
 -- ---- the Context ID
 
-module _ (ts : List Template) (d : List ℕ) (id n : ℕ) (e : read_number d ≡ Whole id n) where
+module _ (ts : List Template) (d : List ℕ) (id n : ℕ) (e : read_number d ≡ Some (number id n)) where
   pub opened_zero : id ≡ 0 → opened ts d ≡ within_limit (take (length d - n) (drop n d))
   unfolding opened
   opened_zero f = rw (tail n d, e, eq-eqb id 0 f)

@@ -1,4 +1,5 @@
--- What a `Go` of sending says, both ways. Assumes nothing.
+-- What an `Ok` of sending says, both ways. Assumes nothing.
+use Rattle.std.proofs.Common.{Ok}
 use Prim.Native.Nat.{ℕ, ◌≤◌}
 use mathlib.Core.Path.{◌≡◌}
 use mathlib.Core.Bool.{true, false}
@@ -7,7 +8,6 @@ use borrow.Author.Tests.{ltb-false, le-ltb, not-false}
 use lib.Dec.{lit<}
 use lib.ListN.{length}
 use Rattle.answer.specs.declared.Refusal.TheVariants.{NoRoom}
-use Rattle.answer.specs.declared.Verdict.TheVariants.{Go}
 use Rattle.answer.specs.Verdict.{◌⇒◌}
 use Rattle.answer.proofs.Tables.{go-at}
 use Rattle.inet.specs.Packet as Packet
@@ -15,7 +15,7 @@ use Rattle.state.specs.State.{State, sound_state, sending_granted}
 use Rattle.template.specs.Datagrams.{max_packet}
 use Rattle.tunnel.specs.Tunnel.{send_room, send_tests, send_verdict}
 
--- what a `Go` to send the packet p to an output of n bytes says
+-- what an `Ok` to send the packet p to an output of n bytes says
 pub record SendGo (s : State) (p : List ℕ) (n : ℕ) : Type 0 where
   pub roomy : send_room ≤ n
   pub sound : sound_state s ≡ true
@@ -25,7 +25,7 @@ pub record SendGo (s : State) (p : List ℕ) (n : ℕ) : Type 0 where
   pub granted : sending_granted s p ≡ true
 
 module _ (s : State) (p : List ℕ) (n : ℕ) where
-  pub send_go : send_verdict s p n ≡ Go → SendGo s p n
+  pub send_go : send_verdict s p n ≡ Ok tt → SendGo s p n
   unfolding send_verdict send_tests
   send_go e =
       let failed = go-at (send_tests s p n) (false ⇒ NoRoom) in
@@ -38,7 +38,7 @@ module _ (s : State) (p : List ℕ) (n : ℕ) where
         granted = not-false _ (failed 5 e (lit< tt));
       }
 
-  pub go_send : SendGo s p n → send_verdict s p n ≡ Go
+  pub go_send : SendGo s p n → send_verdict s p n ≡ Ok tt
   unfolding send_verdict send_tests
   go_send g =
       simp (le-ltb _ _ g.roomy, g.sound, le-ltb _ _ g.short, g.form, le-ltb _ _ g.hops, g.granted)

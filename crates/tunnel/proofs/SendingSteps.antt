@@ -1,4 +1,5 @@
 -- What the steps of sending write, one behind the other, and what each lets the next one ask for. Assumes nothing.
+use Rattle.std.proofs.Common.{Result, Ok, Err}
 use Prim.Native.Nat.{ℕ, zero, suc, ◌+◌, ◌-◌, ◌≤◌, ◌<◌, min}
 use mathlib.Core.Path.{◌≡◌, refl, sym, ap, ◌∙◌}
 use mathlib.Core.List.{List, [], ◌∷◌, ◌++◌}
@@ -6,10 +7,7 @@ use native.Mathlib.Omega.{arith}
 use lib.ListN.{length, take, drop, set, length-set, length-take}
 use lib.Seq.{take_at, length-take-le}
 use borrow.Rule.Slice.PartMut.{put_mid}
-use Rattle.answer.specs.declared.Answer.TheVariants.{Done, Refused}
 use Rattle.answer.specs.declared.Refusal.{Refusal}
-use Rattle.answer.specs.declared.Verdict.{Verdict}
-use Rattle.answer.specs.declared.Verdict.TheVariants.{Go, Stop}
 use Rattle.answer.specs.Verdict.{Writes}
 use Rattle.output.specs.Places.{Put}
 use Rattle.output.proofs.Placing.{put_then, put_set, put_as, put_back, put_front, lent}
@@ -28,11 +26,10 @@ use Rattle.table.specs.Sound.{UsableTemplate}
 use Rattle.table.proofs.TableFacts.{table_usable}
 use Rattle.state.specs.State.{table_at, state_in}
 use Rattle.state.proofs.StateLaws.{state_facts}
-use Rattle.template.specs.declared.Fit.{Fit}
 use Rattle.template.specs.Pieces.{strip}
 use Rattle.template.specs.Fits.{full, first_fit}
 use Rattle.template.specs.Datagrams.{seeded, short_form, full_form, datagram}
-use Rattle.template.specs.Usable.{ChosenAt, Chosen, Testable, Fronted, Fillable, filled, Shortenable, pieces_of}
+use Rattle.template.specs.Usable.{ChosenAt, Testable, Fronted, Fillable, filled, Shortenable, pieces_of}
 use Rattle.table.proofs.InTurn.{templates-all}
 use Rattle.template.proofs.Steps.{find_done}
 use Rattle.template.proofs.FrontLaws.{front_length, front-whole, front-filled}
@@ -96,9 +93,6 @@ module _ (t : List ℕ) (first : ℕ) (front p out : List ℕ) (s : Shortable t 
 -- where there are no templates, none is chosen
 pub chosen_none : (w p : List ℕ) → count_in w ≤ 0 → first_fit (templates_of w) p ≡ full
 chosen_none w p h = ap (λ l. first_fit l p) (templates-all w) ∙ find_done w p 0 (count_in w) h
-
-pub chosen_as : (w p : List ℕ) {r q : Fit} → r ≡ q → Chosen w p r → Chosen w p q
-chosen_as w p e f = rw e at f
 
 module _ (w p out : List ℕ) where
   pub datagram-full : {after : List ℕ} {n : ℕ} → first_fit (templates_of w) p ≡ full → Put (full_form p) 0 out n after
@@ -179,13 +173,13 @@ go_sendable w {p} {out} s =
       space = s.roomy;
     }
 
-pub writes-stop : {v : Verdict} {m out : List ℕ} {why : Refusal} → v ≡ Stop why → Writes v m out (Refused why) out
+pub writes-stop : {v : Result Unit Refusal} {m out : List ℕ} {why : Refusal} → v ≡ Err why → Writes v m out (Err why) out
 writes-stop e = record { answer = rw e; output = rw e }
 
-pub writes_go : {v : Verdict} {m out after : List ℕ} {n : ℕ} → v ≡ Go → Put m 0 out n after → Writes v m out (Done n) after
-writes_go e f = let k = put_front f in record { answer = rw e (ap Done k.0); output = rw e k.1 }
+pub writes_go : {v : Result Unit Refusal} {m out after : List ℕ} {n : ℕ} → v ≡ Ok tt → Put m 0 out n after → Writes v m out (Ok n) after
+writes_go e f = let k = put_front f in record { answer = rw e (ap Ok k.0); output = rw e k.1 }
 
-pub sends_go : (w p : List ℕ) {v : Verdict} {out after : List ℕ} {n : ℕ} → v ≡ Go
-    → Put (datagram (templates_of (part w table_at table_words)) (lowered p)) 0 out n after → Writes v (sent_bytes (state_in w) p) out (Done n) after
+pub sends_go : (w p : List ℕ) {v : Result Unit Refusal} {out after : List ℕ} {n : ℕ} → v ≡ Ok tt
+    → Put (datagram (templates_of (part w table_at table_words)) (lowered p)) 0 out n after → Writes v (sent_bytes (state_in w) p) out (Ok n) after
 unfolding sent_bytes
 sends_go w p e f = writes_go e f

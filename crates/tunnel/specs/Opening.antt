@@ -1,6 +1,6 @@
 -- What a datagram stands for under the words of a state, and what taking in the packet asks for and promises.
-use Rattle.std.specs.Prelude.{ℕ, ◌+◌, ◌≤◌, min, ◌≡◌, true, List, ◌++◌, length}
-use Rattle.answer.specs.declared.Answer.{Answer}
+use Rattle.std.specs.Prelude.{ℕ, ◌+◌, ◌≤◌, min, ◌≡◌, true, List, ◌++◌, length, Result}
+use Rattle.answer.specs.declared.Refusal.{Refusal}
 use Rattle.answer.specs.Verdict.{Writes}
 use Rattle.state.specs.State.{sound_state, state_in}
 use Rattle.inet.specs.Fronts.{max_header}
@@ -44,5 +44,5 @@ pub record Joinable (w front tail out : List ℕ) : Type 0 where
   pub header : min max_header (length front + length tail) ≤ length front
 
 -- the packet is judged, and written where it passes; or what was opened is refused
-pub record Takes (w : List ℕ) (o : Opened) (before : List ℕ) (r : Answer) (after : List ℕ) : Type 0 where
+pub record Takes (w : List ℕ) (o : Opened) (before : List ℕ) (r : Result ℕ Refusal) (after : List ℕ) : Type 0 where
   pub writes : Writes (opened_verdict (state_in w) o) (opened_bytes o) before r after

@@ -1,10 +1,11 @@
 // Capsules read and written against the lent state.
 ghost use Rattle.std.specs.Prelude.{◌≡◌, true, length};
 ghost use Rattle.capsule_write.specs.Verdicts.{DatagramWritten, RequestWritten};
-ghost use Rattle.tunnel_c.specs.Plain.{plain_answer, plain_capsule, Plainly, ReadsPlainly, AssignsPlainly, AdvertisesPlainly};
+ghost use Rattle.tunnel_c.specs.Plain.{plain_answer, found_capsule, plain_capsule, Plainly, ReadsPlainly, AssignsPlainly, AdvertisesPlainly};
 
 use super::{PlainAnswer, plain};
-use capsule::CapsuleRead;
+use answer::Refusal;
+use capsule::{CapsuleRead, Kind};
 use lists::{ADDRESS_WORDS, ROUTE_WORDS};
 use state::STATE_WORDS;
 
@@ -29,30 +30,44 @@ pub fn whapirohi_read_capsule(
     ensures { ReadsPlainly state.old bytes.now at requested.old result state.new requested.new }
 {
     let read = exchange::read_capsule(state, bytes, at, requested);
-    plain_capsule(read)
+    plain_capsule(read, at)
 }
 
-// A capsule without its verdict's enum.
-fn plain_capsule(read: CapsuleRead) -> PlainCapsule
-    ensures { result ≡ plain_capsule read }
+// A capsule that was read at a place, without an enum: a refusal leaves the place.
+fn plain_capsule(read: Result<CapsuleRead, Refusal>, at: usize) -> PlainCapsule
+    ensures { result ≡ plain_capsule at read }
 {
-    let verdict = read.verdict;
-    let number = verdict.number() as u64;
-    if read.kind == 0 {
-        return PlainCapsule {
-            number,
+    match read {
+        Ok(read) => found(read),
+        Err(why) => PlainCapsule {
+            number: why.number() as u64,
             kind: 0,
+            start: 0,
+            length: 0,
+            next: at as u64,
+        },
+    }
+}
+
+fn found(read: CapsuleRead) -> PlainCapsule
+    ensures { result ≡ found_capsule read }
+{
+    let kind = read.kind.number();
+    match read.kind {
+        Kind::Datagram => PlainCapsule {
+            number: 0,
+            kind,
             start: read.start as u64,
             length: read.length as u64,
             next: read.next as u64,
-        };
-    }
-    PlainCapsule {
-        number,
-        kind: read.kind,
-        start: 0,
-        length: 0,
-        next: read.next as u64,
+        },
+        _ => PlainCapsule {
+            number: 0,
+            kind,
+            start: 0,
+            length: 0,
+            next: read.next as u64,
+        },
     }
 }
 

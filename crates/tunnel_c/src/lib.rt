@@ -1,6 +1,6 @@
 // The box for C and Rust hosts: functions over numbers, byte slices and arrays of words. The host owns the state, one array of words, and lends it;
 // `tunnel_c_c` exports the functions, and `include/whapirohi.h` has the declarations and what a caller owes. Each function promises what the function of the same
-// name below promises, with the answer's enum as the number that it gives back and its values beside it.
+// name below promises, with the answer as the number that it gives back and its values beside it.
 #![tactic(auto)]
 
 mod capsules; // capsules.rt: capsules read and written against the lent state
@@ -13,7 +13,7 @@ ghost use Rattle.state.specs.State.{state_words};
 ghost use Rattle.varint.specs.Numbers.{read_number};
 ghost use Rattle.tunnel_c.specs.Plain.{plain_answer, plain_number, NumberPlainly, state_bytes};
 
-use answer::Answer;
+use answer::Refusal;
 pub use capsules::{
     PlainCapsule, whapirohi_read_capsule, whapirohi_write_assign, whapirohi_write_datagram,
     whapirohi_write_request, whapirohi_write_routes,
@@ -22,7 +22,7 @@ pub use packets::{whapirohi_receive, whapirohi_send};
 pub use pieces::{PlainPiece, whapirohi_feed, whapirohi_kept_size};
 pub use plans::{whapirohi_load_plan, whapirohi_write_plan};
 use state::STATE_WORDS;
-use varint::NumberRead;
+use varint::Number;
 
 // The bytes of a word.
 const WORD_BYTES: usize = 8;
@@ -64,12 +64,12 @@ pub fn whapirohi_read_number(bytes: &[u8]) -> PlainNumber
 {
     let read = varint::read(bytes);
     match read {
-        NumberRead::Whole { value, size } => PlainNumber {
+        Some(Number { value, size }) => PlainNumber {
             number: 0,
             value,
             size: size as u64,
         },
-        NumberRead::Cut => PlainNumber {
+        None => PlainNumber {
             number: 1,
             value: 0,
             size: 0,
@@ -85,11 +85,11 @@ pub fn whapirohi_write_number(value: u64, out: &mut [u8]) -> PlainAnswer
     plain(answer)
 }
 
-// An answer without its enum.
-fn plain(answer: Answer) -> PlainAnswer
+// An answer in plain numbers.
+fn plain(answer: Result<usize, Refusal>) -> PlainAnswer
     ensures { result ≡ plain_answer answer }
 {
-    let number = answer.number() as u64;
-    let length = answer.length() as u64;
+    let number = answer::number_of(&answer) as u64;
+    let length = answer::length_of(answer) as u64;
     PlainAnswer { number, length }
 }

@@ -1,9 +1,9 @@
 // The stream in pieces: an unfinished capsule is kept in the lent state and in lent bytes beside it.
-ghost use Rattle.std.specs.Prelude.{◌≤◌, ◌≡◌};
-ghost use Rattle.capsule.specs.Results.{other_kind};
+ghost use Rattle.std.specs.Prelude.{◌≡◌};
 ghost use Rattle.stream.specs.Feeding.{kept_size};
-ghost use Rattle.tunnel_c.specs.Plain.{not_handed, plain_piece, KnownKind, FeedsPlainly};
+ghost use Rattle.tunnel_c.specs.Plain.{not_handed, plain_call, plain_piece, FeedsPlainly};
 
+use answer::Refusal;
 use lists::ADDRESS_WORDS;
 use state::STATE_WORDS;
 use stream::{Call, KEPT_SIZE, Piece};
@@ -43,37 +43,31 @@ pub fn whapirohi_feed(
     plain_piece(piece)
 }
 
-// A piece without its enum.
-fn plain_piece(piece: Piece) -> PlainPiece
-    requires { KnownKind piece.call }
+// A piece in plain numbers; a refusal takes nothing.
+fn plain_piece(piece: Result<Piece, Refusal>) -> PlainPiece
     ensures { result ≡ plain_piece piece }
 {
-    let taken = piece.taken as u64;
-    let call = piece.call;
+    match piece {
+        Ok(Piece { call, taken }) => plain_call(taken as u64, call),
+        Err(why) => not_handed(why.number() as u64, 0),
+    }
+}
+
+// What a call says, and how many bytes it took.
+fn plain_call(taken: u64, call: Call) -> PlainPiece
+    ensures { result ≡ plain_call taken call }
+{
     match call {
         Call::Handed { kind, length } => PlainPiece {
             number: 0,
             handed: 1,
-            kind: by_itself(kind),
+            kind: kind.number(),
             length: length as u64,
             taken,
         },
         Call::Between => not_handed(0, taken),
         Call::Wait => not_handed(1, taken),
-        Call::Stopped(why) => not_handed(why.number() as u64, taken),
     }
-}
-
-// A kind, no larger than that of a skipped type. It is tested again so that the compiler loads it by itself: loaded together with the length, right after each was
-// stored alone, it would wait until both have reached the cache.
-fn by_itself(kind: u64) -> u64
-    requires { kind ≤ other_kind }
-    ensures { result ≡ kind }
-{
-    if capsule::OTHER_KIND < kind {
-        return capsule::OTHER_KIND;
-    }
-    kind
 }
 
 // No capsule was handed out.

@@ -16,7 +16,7 @@ pub fn whapirohi_load_plan(state: &mut [u64; STATE_WORDS], file: &[u8]) -> u64
     ensures { Plainly verdict_number (λ v. LoadsPlan file.now state.old v state.new) result }
 {
     let verdict = state::load_plan(state, file);
-    verdict.number() as u64
+    answer::number_of(&verdict) as u64
 }
 
 // The file of the templates.
@@ -25,7 +25,7 @@ pub fn whapirohi_write_plan(state: &[u64; STATE_WORDS], out: &mut [u8]) -> Plain
 {
     let all = &state[..];
     let mut words = [0u64; TABLE_WORDS];
-    octets::copy_words(&all[TABLE_AT..STORE_AT], &mut words);
+    words.copy_from_slice(&all[TABLE_AT..STORE_AT]);
     let answer = plan_write::write_plan(&words, out);
     plain(answer)
 }

@@ -1,4 +1,5 @@
 -- A capsule that a call hands out: how many bytes it takes, how long its answer is, and that nothing is kept behind it. Assumes nothing.
+use Rattle.std.proofs.Common.{Result, Ok, Err}
 use Prim.Native.Nat.{ℕ, zero, suc, ◌+◌, ◌-◌, ◌*◌, ◌<◌, ◌≤◌}
 use mathlib.Core.Bool.{Bool, true, false}
 use mathlib.Core.Path.{◌≡◌, refl, sym, ap, ◌∙◌}
@@ -9,8 +10,6 @@ use lib.Dec.{ltb, eqb}
 use lib.ListN.{length, length-append}
 use Rattle.answer.specs.declared.Refusal.{Refusal}
 use Rattle.answer.specs.declared.Refusal.TheVariants.{NoRoom}
-use Rattle.answer.specs.declared.Verdict.{Verdict}
-use Rattle.answer.specs.declared.Verdict.TheVariants.{Go, Stop}
 use Rattle.answer.specs.Choice.{pick}
 use Rattle.answer.specs.Number.{number_of}
 use Rattle.answer.specs.Verdict.{output_of, ◌⇒◌}
@@ -76,7 +75,7 @@ module _ (k : Store) (t : List ℕ) (c : Capsule) (o : Open k) where
   -- the capsule is skipped
   abbrev skipped : ℕ → Bool → Fed
   skipped n b =
-      pick b (record { said = wait; taken = length t; store = record { kept = []; skip = n - length t; stopped = Go } })
+      pick b (record { said = wait; taken = length t; store = record { kept = []; skip = n - length t; stopped = (Ok tt) } })
       (record { said = out unknown; taken = n; store = empty })
 
   on-skip : (n : ℕ) → k.skip ≡ suc n → (b : Bool) → ltb (length t) (suc n) ≡ b → (skipped (suc n) b).said ≡ out c → Ends k t c (skipped (suc n) b)
@@ -96,9 +95,9 @@ module _ (k : Store) (t : List ℕ) (c : Capsule) (o : Open k) where
   on_open zero e h = on-reading e (read_capsule (k.kept ++ t)) refl h
   on_open (suc n) e h = on-skip n e (ltb (length t) (suc n)) refl h
 
-  on-live : (v : Verdict) → (feed_live k t v).said ≡ out c → Ends k t c (feed_live k t v)
-  on-live Go h = on_open k.skip refl h
-  on-live (Stop r) h = let y : ◌≡◌ {A = ℕ} 0 1 = cc in absurd (omega arith)
+  on-live : (v : Result Unit Refusal) → (feed_live k t v).said ≡ out c → Ends k t c (feed_live k t v)
+  on-live (Ok _) h = on_open k.skip refl h
+  on-live (Err r) h = let y : ◌≡◌ {A = ℕ} 0 1 = cc in absurd (omega arith)
 
   fed-ends : (feed_store k t).said ≡ out c → Ends k t c (feed_store k t)
   unfolding feed_store
@@ -112,21 +111,21 @@ module _ (m : Memory) (s : List ℕ) (c : Capsule) (h : (stepped m s).said ≡ o
   abbrev f : Fed
   f = fed m.state m.bytes s
 
-  sound-store : hand_verdict m.state m.bytes capsule_room ≡ Go → sound_store k ≡ true
+  sound-store : hand_verdict m.state m.bytes capsule_room ≡ Ok tt → sound_store k ≡ true
   unfolding feed_tests
   sound-store e = not-false (sound_store k) (go-at ((ltb capsule_room capsule_room ⇒ NoRoom) ∷ feed_tests m.state m.bytes capsule_room) (false ⇒ NoRoom) 3 e (omega arith))
 
-  went : hand_verdict m.state m.bytes capsule_room ≡ Go
+  went : hand_verdict m.state m.bytes capsule_room ≡ Ok tt
   unfolding stepped
   went = of (hand_verdict m.state m.bytes capsule_room) h
     where
-      of : (v : Verdict) → (step_of v m f).said ≡ out c → v ≡ Go
-      of Go g = refl
-      of (Stop r) g = let y : ◌≡◌ {A = ℕ} 0 1 = cc in absurd (omega arith)
+      of : (v : Result Unit Refusal) → (step_of v m f).said ≡ out c → v ≡ Ok tt
+      of (Ok _) g = refl
+      of (Err r) g = let y : ◌≡◌ {A = ℕ} 0 1 = cc in absurd (omega arith)
 
-  stepped-go : stepped m s ≡ step_of Go m f
+  stepped-go : stepped m s ≡ step_of (Ok tt) m f
   unfolding stepped
-  stepped-go = ap (λ (v : Verdict). step_of v m f) went
+  stepped-go = ap (λ (v : Result Unit Refusal). step_of v m f) went
 
   said-out : f.said ≡ out c
   said-out = sym (ap (λ (x : Step). x.said) stepped-go) ∙ h
@@ -160,6 +159,6 @@ module _ (m : Memory) (s : List ℕ) (c : Capsule) (h : (stepped m s).said ≡ o
   step-empties l =
       let w = taken m.state c in
       ap (λ (x : Step). store_in x.memory.state x.memory.bytes) stepped-go
-      ∙ ap (λ (x : Said). store_in (stored (on_out (taken m.state) m.state x) f.store) (output_of Go f.store.kept m.bytes)) said-out
-      ∙ ap (λ (x : Store). store_in (stored w x) (output_of Go x.kept m.bytes)) ends.none
+      ∙ ap (λ (x : Said). store_in (stored (on_out (taken m.state) m.state x) f.store) (output_of (Ok tt) f.store.kept m.bytes)) said-out
+      ∙ ap (λ (x : Store). store_in (stored w x) (output_of (Ok tt) x.kept m.bytes)) ends.none
       ∙ store_stored w empty (length_taken m.state c (omega arith) ∙ l) m.bytes refl

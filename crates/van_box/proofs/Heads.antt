@@ -1,4 +1,5 @@
 -- The head of an answer in front of its bytes, which a function wrote to a part of the output that was lent and came back. Assumes nothing.
+use Rattle.std.proofs.Common.{Result, Ok, Err, ℕ}
 use Prim.Native.Nat.{ℕ, ◌+◌, ◌-◌, ◌/◌, ◌%◌, ◌<◌, ◌≤◌}
 use mathlib.Core.Path.{◌≡◌, refl, sym, ap, ◌∙◌}
 use mathlib.Core.List.{List, [], ◌∷◌, ◌++◌, append_assoc}
@@ -7,10 +8,6 @@ use lib.ListN.{length, take, drop, set, length-set, length-append, length-take, 
 use lib.Seq.{take-append-le, take-take, drop_at, drop-drop, length-take-le}
 use borrow.Rule.Slice.PartMut.{put_mid}
 use Rattle.answer.specs.declared.Refusal.{Refusal}
-use Rattle.answer.specs.declared.Answer.{Answer}
-use Rattle.answer.specs.declared.Answer.TheVariants.{Done, Refused}
-use Rattle.answer.specs.declared.Verdict.{Verdict}
-use Rattle.answer.specs.declared.Verdict.TheVariants.{Go, Stop}
 use Rattle.answer.specs.Number.{answer_number, answer_length}
 use Rattle.answer.specs.Verdict.{answer_of, output_of, Writes}
 use Rattle.octets.proofs.Parts.{tail, put_tail}
@@ -35,7 +32,7 @@ put-within {m} {a} {b} {at} {r} h p =
     omega (arith, l, length-take r b, length-take-le at a h, p.place)
 
 -- four stores are the head, the last two the length
-module _ (kind : ℕ) (a : Answer) (o : Output) (before : List ℕ) {number high low : ℕ} where
+module _ (kind : ℕ) (a : Result ℕ Refusal) (o : Output) (before : List ℕ) {number high low : ℕ} where
   stores : o.used + answer_head ≤ length before
       → Put (kind ∷ number ∷ high ∷ low ∷ []) o.used before (o.used + answer_head)
       (set (set (set (set before o.used kind) (o.used + 1) number) (o.used + 2) high) (o.used + 3) low)
@@ -66,10 +63,10 @@ module _ (kind : ℕ) (a : Answer) (o : Output) (before : List ℕ) {number high
 
 -- an answer without bytes
 module _ {kind : ℕ} {o r : Output} {out after : List ℕ} where
-  pub head-refused : {why : Refusal} → PutsHead kind (Refused why) o out r after → Appends (answer_bytes kind (Stop why) []) o out r after
+  pub head-refused : {why : Refusal} → PutsHead kind (Err why) o out r after → Appends (answer_bytes kind (Err why) []) o out r after
   head-refused p = let e : o.used + answer_head ≡ r.used = omega (arith, p.used) in record { put = put-place e p.head; still = p.still }
 
-  pub head_done : PutsHead kind (Done 0) o out r after → Appends (answer_bytes kind Go []) o out r after
+  pub head_done : PutsHead kind (Ok 0) o out r after → Appends (answer_bytes kind (Ok tt) []) o out r after
   head_done p = let e : o.used + answer_head ≡ r.used = omega (arith, p.used) in record { put = put-place e p.head; still = p.still }
 
 -- ---- the head h at a place, and behind it m, which stood there before
@@ -112,11 +109,11 @@ module _ (kind : ℕ) (o : Output) (out : List ℕ) (fits : o.used + answer_head
   same : (b : List ℕ) → b ≡ lent start out → put_mid start (length out - start) out b ≡ out
   same b e = put_tail start out b fits ∙ ap (λ (v : List ℕ). take start out ++ v) (e ∙ tail start out) ∙ take-append-drop start out
 
-  module _ (m b : List ℕ) {a : Answer} {r : Output} {after : List ℕ} (p : PutsHead kind a o (put_mid start (length out - start) out b) r after) where
-    by-verdict : (v : Verdict) → length b ≡ length (lent start out) → a ≡ answer_of v (length m) → b ≡ output_of v m (lent start out)
+  module _ (m b : List ℕ) {a : Result ℕ Refusal} {r : Output} {after : List ℕ} (p : PutsHead kind a o (put_mid start (length out - start) out b) r after) where
+    by-verdict : (v : Result Unit Refusal) → length b ≡ length (lent start out) → a ≡ answer_of v (length m) → b ≡ output_of v m (lent start out)
         → Appends (answer_bytes kind v m) o out r after
-    by-verdict Go k e f =
-        let q : PutsHead kind (Done (length m)) o (put_mid start (length out - start) out b) r after = rw e at p in
+    by-verdict (Ok _) k e f =
+        let q : PutsHead kind (Ok (length m)) o (put_mid start (length out - start) out b) r after = rw e at p in
         let g = back m b k f in
         record {
           put =
@@ -124,11 +121,11 @@ module _ (kind : ℕ) (o : Output) (out : List ℕ) (fits : o.used + answer_head
               (over (head_bytes kind 0 (length m)) m out (put_mid start (length out - start) out b) after o.used start refl g.0 g.1 q.head);
           still = q.still;
         }
-    by-verdict (Stop why) k e f =
-        let q : PutsHead kind (Refused why) o (put_mid start (length out - start) out b) r after = rw e at p in
+    by-verdict (Err why) k e f =
+        let q : PutsHead kind (Err why) o (put_mid start (length out - start) out b) r after = rw e at p in
         head-refused (rw (same b f) at q)
 
-  pub answered : {v : Verdict} {m b : List ℕ} {a : Answer} {r : Output} {after : List ℕ} → Writes v m (lent start out) a b
+  pub answered : {v : Result Unit Refusal} {m b : List ℕ} {a : Result ℕ Refusal} {r : Output} {after : List ℕ} → Writes v m (lent start out) a b
       → length b ≡ length (lent start out) → PutsHead kind a o (put_mid start (length out - start) out b) r after
       → Appends (answer_bytes kind v m) o out r after
   answered {v} {m} {b} w k p = by-verdict m b p v k w.answer w.output

@@ -11,24 +11,10 @@ use lib.Seq.{get_or-drop, take-suc, take-suc-set, drop-set-lt, drop-drop, length
 use borrow.Rule.Slice.PartMut.{put_mid}
 use Rattle.octets.proofs.Parts.{tail, put_tail}
 use Rattle.output.proofs.Placing.{lent}
+use Rattle.std.specs.List.{copy_within}
+use Rattle.std.proofs.lemmas.List.Edits.{take-paste}
 use Rattle.van_box.specs.Sizes.{record_head}
-use Rattle.van_box.specs.Incoming.{Fills, stated_size, record_size, Sized, Keeps}
-
--- ---- bytes read
-
--- `&mut input[held..]` came back as b, and n of its bytes are counted
-pub filled : (held n : ℕ) (input b : List ℕ) → held ≤ length input
-    → n ≤ length (lent held (put_mid held (length input - held) input b)) → Fills held input (held + n) (put_mid held (length input - held) input b)
-filled held n input b h l =
-    let t : length (take held input) ≡ held = length-take-le held input h in
-    let p : put_mid held (length input - held) input b ≡ take held input ++ b = put_tail held input b h in
-    let q : lent held (put_mid held (length input - held) input b) ≡ b =
-    tail held (put_mid held (length input - held) input b) ∙ ap (drop held) p ∙ drop_at (take held input) b held t in
-    record {
-      front = ap (take held) p ∙ take_at (take held input) b held t;
-      more = omega arith;
-      within = omega (arith, ap length p ∙ length-append (take held input) b, ap length q);
-    }
+use Rattle.van_box.specs.Incoming.{stated_size, record_size, Sized, Keeps}
 
 -- ---- sizes
 
@@ -74,47 +60,14 @@ module _ (s : List ℕ) (at : ℕ) (h : at ≤ length s) where
 
 -- ---- bytes moved to the front
 
--- the first i bytes are moved, and those from i on are as they were
-pub record Moved (at i : ℕ) (before after : List ℕ) : Type 0 where
-  pub front : take i after ≡ take i (drop at before)
-  pub rest : drop i after ≡ drop i before
-  pub size : length after ≡ length before
-
-pub moved_none : (at : ℕ) (l : List ℕ) → Moved at 0 l l
-moved_none at l = record { front = refl; rest = refl; size = refl }
-
-module _ {at i : ℕ} {before after : List ℕ} (m : Moved at i before after) where
-  pub moved_more : at + i < length before → Moved at (i + 1) before (set after i (get_or after (at + i) 0))
-  moved_more h =
-      let b = get_or after (at + i) 0 in
-      let l : i < length after = omega (arith, m.size) in
-      let x : b ≡ get_or (drop at before) i 0 =
-      ap (λ (k : ℕ). get_or after k 0) (add_comm at i)
-      ∙ sym (get_or-drop i after at 0)
-      ∙ ap (λ (t : List ℕ). get_or t at 0) m.rest
-      ∙ get_or-drop i before at 0
-      ∙ ap (λ (k : ℕ). get_or before k 0) (add_comm i at)
-      ∙ sym (get_or-drop at before i 0) in
-      record {
-        front =
-            ap (λ (k : ℕ). take k (set after i b)) (add-one i)
-            ∙ take-suc-set after i b l
-            ∙ ap (λ (t : List ℕ). t ++ (b ∷ [])) m.front
-            ∙ ap (λ (y : ℕ). take i (drop at before) ++ (y ∷ [])) x
-            ∙ sym (take-suc (drop at before) i 0 (omega (arith, length-drop at before)))
-            ∙ ap (λ (k : ℕ). take k (drop at before)) (sym (add-one i));
-        rest =
-            drop-set-lt (i + 1) after i b (omega arith)
-            ∙ sym (drop-drop 1 i after)
-            ∙ ap (drop 1) m.rest
-            ∙ drop-drop 1 i before;
-        size = length-set after i b ∙ m.size;
-      }
-
-  pub moved_all : {end : ℕ} → i ≤ end - at → end - at ≤ i → Keeps at end before (end - at) after
-  moved_all {end} g h =
-      let e : i ≡ end - at = omega arith in
-      record { left = refl; front = rw (← e) m.front }
+pub moved : {at end : ℕ} (before : List ℕ) → at ≤ end → end ≤ length before → Keeps at end before (end - at) (copy_within before at end 0)
+moved {at} {end} before h k =
+    let n = end - at in
+    let e : n ≡ 0 + n = omega arith in
+    record {
+      left = refl;
+      front = ap (λ (i : ℕ). take i (copy_within before at end 0)) e ∙ take-paste before 0 (drop at before) n (omega arith) (omega (arith, length-drop at before));
+    }
 
 pub kept_here : {at : ℕ} (end : ℕ) (l : List ℕ) → at ≡ 0 → Keeps at end l (end - at) l
 kept_here end l e = record { left = refl; front = rw e }

@@ -1,5 +1,6 @@
 -- What each kind of record leaves, from what its library function promises and the head in front. A verdict is the same for every larger room.
 -- Assumes nothing.
+use Rattle.std.proofs.Common.{Result, Ok, Err, ℕ}
 use Prim.Native.Nat.{ℕ, ◌+◌, ◌-◌, ◌≤◌}
 use mathlib.Core.Bool.{Bool}
 use mathlib.Core.Path.{◌≡◌, refl, sym, ap, ◌∙◌}
@@ -9,10 +10,6 @@ use borrow.Author.Tests.{le-ltb, ne_eqb}
 use lib.ListN.{length, length-take, length-drop}
 use borrow.Rule.Slice.PartMut.{put_mid}
 use Rattle.answer.specs.declared.Refusal.{Refusal}
-use Rattle.answer.specs.declared.Answer.{Answer}
-use Rattle.answer.specs.declared.Answer.TheVariants.{Done, Refused}
-use Rattle.answer.specs.declared.Verdict.{Verdict}
-use Rattle.answer.specs.declared.Verdict.TheVariants.{Go, Stop}
 use Rattle.answer.specs.Verdict.{output_of, kept, Writes}
 use Rattle.output.proofs.Placing.{lent}
 use Rattle.capsule.specs.Capsules.{max_value}
@@ -22,8 +19,9 @@ use Rattle.state.specs.Loading.{LoadsPlan}
 use Rattle.exchange.specs.Writing.{Gives, AssignsValue, AdvertisesValue, RequestsValue}
 use Rattle.stream.specs.declared.feeding.Piece.{Piece}
 use Rattle.stream.specs.Store.{Said, out, clean, wait, no, Fed}
-use Rattle.stream.specs.Feeding.{feed_tests, fed, on_out, state_fed}
+use Rattle.stream.specs.Feeding.{store_in, feed_tests, fed, on_out, state_fed, call_of, piece_with, piece_of, call_by, taken_by}
 use Rattle.stream.specs.Handing.{contents, hand_verdict, handed_call, handed_piece, HandsOn}
+use Rattle.stream.proofs.FeedLaws.{call-with, takes}
 use Rattle.tunnel.specs.Tunnel.{send_room, receive_room, send_tests, send_verdict, receive_tests, receive_verdict, Sends, Receives}
 use Rattle.van_box.specs.declared.outgoing.Output.{Output}
 use Rattle.van_box.specs.Sizes.{answer_head, answer_room}
@@ -42,7 +40,7 @@ receive_room_lem : (s : State) (d : List ℕ) (n : ℕ) → capsule_room ≤ n �
 unfolding receive_verdict receive_tests
 receive_room_lem s d n h = rw (le-ltb n receive_room (omega arith))
 
-capsule-room : (v : Verdict) (n : ℕ) → capsule_room ≤ n → with_room n v ≡ with_room capsule_room v
+capsule-room : (v : Result Unit Refusal) (n : ℕ) → capsule_room ≤ n → with_room n v ≡ with_room capsule_room v
 unfolding with_room
 capsule-room v n h = rw (le-ltb n capsule_room h)
 
@@ -50,34 +48,41 @@ hand_room : (w held : List ℕ) (n : ℕ) → capsule_room ≤ n → hand_verdic
 unfolding feed_tests
 hand_room w held n h = rw (le-ltb n capsule_room h, le-ltb n max_value (omega arith))
 
-writes_as : {u v : Verdict} {m before after : List ℕ} {r : Answer} → u ≡ v → Writes u m before r after → Writes v m before r after
+writes_as : {u v : Result Unit Refusal} {m before after : List ℕ} {r : Result ℕ Refusal} → u ≡ v → Writes u m before r after → Writes v m before r after
 writes_as e w = rw e at w
 
 -- ---- a call: its answer, what it takes and leaves are those of its step
 module _ (m : Memory) (f : Fed) where
-  piece_writes : (v : Verdict) (before : List ℕ)
-      → Writes (said_verdict (step_of v m f).said) (on_out contents [] (step_of v m f).said) before (call_answer (handed_piece v f).call)
+  piece_writes : (v : Result Unit Refusal) (before : List ℕ)
+      → Writes (said_verdict (step_of v m f).said) (on_out contents [] (step_of v m f).said) before (call_answer (call_by (handed_piece v f)))
       (output_of v (on_out contents [] f.said) before)
-  piece_writes Go before = of f.said
+  piece_writes (Ok _) before = of f.said
     where
-      of : (x : Said) → Writes (said_verdict x) (on_out contents [] x) before (call_answer (handed_call x)) (output_of Go (on_out contents [] x) before)
+      of : (x : Said) → Writes (said_verdict x) (on_out contents [] x) before (call_answer (call_by (piece_with f.taken (handed_call x)))) (output_of (Ok tt) (on_out contents [] x) before)
       of (out c) = record { answer = refl; output = refl }
       of clean = record { answer = refl; output = refl }
       of wait = record { answer = refl; output = refl }
       of (no r) = record { answer = refl; output = refl }
-  piece_writes (Stop r) before = record { answer = refl; output = refl }
+  piece_writes (Err r) before = record { answer = refl; output = refl }
 
-  piece_taken : (v : Verdict) → (handed_piece v f).taken ≡ (step_of v m f).taken
-  piece_taken Go = refl
-  piece_taken (Stop r) = refl
+  -- the same bytes, whatever is handed back of a capsule
+  alike_taken : (n : ℕ) (x : Said) → taken_by (piece_with n (handed_call x)) ≡ taken_by (piece_with n (call_of x))
+  alike_taken n (out c) = refl
+  alike_taken n clean = refl
+  alike_taken n wait = refl
+  alike_taken n (no r) = refl
 
-  piece_handed : (v : Verdict) → is_handed (handed_piece v f).call ≡ is_handed (handed_call (step_of v m f).said)
-  piece_handed Go = refl
-  piece_handed (Stop r) = refl
+  piece_taken : taken_by (piece_of (Ok tt) f) ≡ f.taken → (v : Result Unit Refusal) → taken_by (handed_piece v f) ≡ (step_of v m f).taken
+  piece_taken e (Ok _) = alike_taken f.taken f.said ∙ e
+  piece_taken e (Err r) = refl
 
-  piece_memory : (v : Verdict) → memory (kept v (state_fed m.state f) m.state) (output_of v f.store.kept m.bytes) ≡ (step_of v m f).memory
-  piece_memory Go = refl
-  piece_memory (Stop r) = refl
+  piece_handed : (v : Result Unit Refusal) → is_handed (call_by (handed_piece v f)) ≡ is_handed (handed_call (step_of v m f).said)
+  piece_handed (Ok _) = ap is_handed (call-with f.taken (handed_call f.said))
+  piece_handed (Err r) = refl
+
+  piece_memory : (v : Result Unit Refusal) → memory (kept v (state_fed m.state f) m.state) (output_of v f.store.kept m.bytes) ≡ (step_of v m f).memory
+  piece_memory (Ok _) = refl
+  piece_memory (Err r) = refl
 
 -- ---- a function that writes to `&mut out[start..]`
 module _ (o : Output) (out : List ℕ) (room : o.used + answer_room ≤ length out) where
@@ -90,7 +95,7 @@ module _ (o : Output) (out : List ℕ) (room : o.used + answer_room ≤ length o
   abbrev Back : List ℕ → List ℕ
   Back b = put_mid start (length out - start) out b
 
-  module _ {b after : List ℕ} {a : Answer} {r : Output} (k : length b ≡ length (lent start out)) where
+  module _ {b after : List ℕ} {a : Result ℕ Refusal} {r : Output} (k : length b ≡ length (lent start out)) where
     pub sent : {w p : List ℕ} → Sends w p (lent start out) a b → PutsHead packet_kind a o (Back b) r after → Appends (sent_answer w p) o out r after
     unfolding sent_answer
     sent t q = answered packet_kind o out (omega arith) (writes_as (send_room_lem _ _ _ roomy) t.writes) k q
@@ -105,12 +110,12 @@ module _ (o : Output) (out : List ℕ) (room : o.used + answer_room ≤ length o
     unfolding request_answer
     requested v t q = answered request_kind o out (omega arith) (writes_as (capsule-room _ _ roomy) t) k q
 
-    given : {kind : ℕ} {u v : Verdict} {m new w later : List ℕ} → u ≡ v → Gives u m new w (lent start out) a later b
+    given : {kind : ℕ} {u v : Result Unit Refusal} {m new w later : List ℕ} → u ≡ v → Gives u m new w (lent start out) a later b
         → PutsHead kind a o (Back b) r after → Answers (giving kind v m new w) o out r later after
     given {kind} {new = new} {w = w} e t q =
         record {
           answers = answered kind o out (omega arith) (writes_as e t.writes) k q;
-          left = t.state ∙ ap (λ (x : Verdict). kept x new w) e;
+          left = t.state ∙ ap (λ (x : Result Unit Refusal). kept x new w) e;
         }
 
     pub assigned : (w v : List ℕ) {later : List ℕ} → AssignsValue w v (lent start out) a later b → PutsHead assign_kind a o (Back b) r after
@@ -124,38 +129,38 @@ module _ (o : Output) (out : List ℕ) (room : o.used + answer_room ≤ length o
     advertised w v t q = given (capsule-room _ _ roomy) t q
 
   -- ---- a call with bytes of the stream
-  abbrev verdict : List ℕ → List ℕ → Verdict
+  abbrev verdict : List ℕ → List ℕ → Result Unit Refusal
   verdict w held = hand_verdict w held (length (lent start out))
 
   same_step : (w held s : List ℕ) → step_of (verdict w held) (memory w held) (fed w held s) ≡ stepped (memory w held) s
   unfolding stepped
-  same_step w held s = ap (λ (v : Verdict). step_of v (memory w held) (fed w held s)) (hand_room w held _ roomy)
+  same_step w held s = ap (λ (v : Result Unit Refusal). step_of v (memory w held) (fed w held s)) (hand_room w held _ roomy)
 
-  module _ {w held s : List ℕ} {x : Piece} {a : Answer} {later holds b : List ℕ} (t : HandsOn w held s (lent start out) x later holds b)
-      (e : a ≡ call_answer x.call) where
+  module _ {w held s : List ℕ} {x : Result Piece Refusal} {a : Result ℕ Refusal} {later holds b : List ℕ} (t : HandsOn w held s (lent start out) x later holds b)
+      (e : a ≡ call_answer (call_by x)) where
     pub handed-writes : Writes (said_verdict (stepped (memory w held) s).said) (on_out contents [] (stepped (memory w held) s).said) (lent start out) a b
     handed-writes =
         rw (e, t.answer, t.output, ← same_step w held s) (piece_writes (memory w held) (fed w held s) (verdict w held) (lent start out))
 
-    pub handed-on : {h : Bool} {after : List ℕ} {r : Output} → h ≡ is_handed x.call → length b ≡ length (lent start out)
+    pub handed-on : {n : ℕ} {h : Bool} {after : List ℕ} {r : Output} → n ≡ taken_by x → h ≡ is_handed (call_by x) → length b ≡ length (lent start out)
         → PutsHead stream_kind a o (Back b) r after
-        → AnswersPiece (memory w held) s o out (record { output = r; taken = x.taken; handed = h }) (memory later holds) after
-    handed-on g k q =
+        → AnswersPiece (memory w held) s o out (record { output = r; taken = n; handed = h }) (memory later holds) after
+    handed-on z g k q =
         let f = same_step w held s in
         record {
           answer = answered stream_kind o out (omega arith) handed-writes k q;
-          taken = ap (λ (y : Piece). y.taken) t.answer ∙ piece_taken (memory w held) (fed w held s) (verdict w held) ∙ ap (λ (y : Step). y.taken) f;
-          handed = g ∙ ap (λ (y : Piece). is_handed y.call) t.answer ∙ piece_handed (memory w held) (fed w held s) (verdict w held) ∙ ap (λ (y : Step). is_handed (handed_call y.said)) f;
+          taken = z ∙ ap taken_by t.answer ∙ piece_taken (memory w held) (fed w held s) (takes (store_in w held) s) (verdict w held) ∙ ap (λ (y : Step). y.taken) f;
+          handed = g ∙ ap (λ (y : Result Piece Refusal). is_handed (call_by y)) t.answer ∙ piece_handed (memory w held) (fed w held s) (verdict w held) ∙ ap (λ (y : Step). is_handed (handed_call y.said)) f;
           memory = rw (t.state, t.bytes) (piece_memory (memory w held) (fed w held s) (verdict w held)) ∙ ap (λ (y : Step). y.memory) f;
         }
 
 -- ---- a plan file: its answer is a head alone
-module _ {file w later out after : List ℕ} {v : Verdict} {o r : Output} (t : LoadsPlan file w v later) where
-  pub plan-good : v ≡ Go → PutsHead plan_kind (Done 0) o out r after → Answers (plan_outcome w file) o out r later after
+module _ {file w later out after : List ℕ} {v : Result Unit Refusal} {o r : Output} (t : LoadsPlan file w v later) where
+  pub plan-good : v ≡ Ok tt → PutsHead plan_kind (Ok 0) o out r after → Answers (plan_outcome w file) o out r later after
   unfolding plan_outcome
   plan-good e q = rw (sym t.verdict ∙ e) (record { answers = head_done q; left = t.words })
 
-  pub plan-refused : {why : Refusal} → v ≡ Stop why → PutsHead plan_kind (Refused why) o out r after → Answers (plan_outcome w file) o out r later after
+  pub plan-refused : {why : Refusal} → v ≡ Err why → PutsHead plan_kind (Err why) o out r after → Answers (plan_outcome w file) o out r later after
   unfolding plan_outcome
   plan-refused e q = rw (sym t.verdict ∙ e) (record { answers = head-refused q; left = t.words })
 

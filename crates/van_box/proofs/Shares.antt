@@ -1,20 +1,19 @@
 -- What a capsule hands back is no longer than `answers_share` times what was read of it: an entry is read from at least 7 bytes and written in at most
 -- 26. Nor is it longer than a value. Assumes nothing.
+use Rattle.std.proofs.Common.{Result, Ok, Err, Option, Some, None}
 use Prim.Native.Nat.{ℕ, zero, suc, ◌+◌, ◌*◌, ◌≤◌}
 use mathlib.Core.Bool.{Bool, true}
 use mathlib.Core.Path.{◌≡◌, refl, ap, ◌∙◌}
 use mathlib.Core.List.{List, [], ◌∷◌}
 use native.Mathlib.Omega.{arith}
 use lib.ListN.{length, take, drop, length-take, length-drop, length-append}
-use Rattle.answer.specs.declared.Verdict.{Verdict}
-use Rattle.answer.specs.declared.Verdict.TheVariants.{Go, Stop}
+use Rattle.answer.specs.declared.Refusal.{Refusal}
 use Rattle.varint.proofs.Reading as Number
 use Rattle.lists.specs.declared.AddressEntry.{AddressEntry}
 use Rattle.lists.specs.Words.{max_addresses}
 use Rattle.capsule.specs.declared.element.EntryRead.{EntryRead}
-use Rattle.capsule.specs.declared.element.EntryRead.TheVariants.{Good, Bad}
 use Rattle.capsule.specs.Elements.{element, Parsed, fault, all, passing, parse, count_verdict, settled, elements_in, written}
-use Rattle.capsule.specs.Entries.{read_entry, entry_bytes, entry_element, entry_format}
+use Rattle.capsule.specs.Entries.{read_entry, entry_read, entry_bytes, entry_element, entry_format}
 use Rattle.capsule.specs.Capsules.{Capsule, capsule, max_value, read_capsule}
 use Rattle.capsule.specs.Sound.{Sound, sound-datagram, sound-assign, sound-request, sound-advertise, sound-unknown}
 use Rattle.capsule.proofs.EntryCases as Entry
@@ -27,9 +26,9 @@ use Rattle.capsule_write.proofs.Accepted.{written-most}
 use Rattle.stream.specs.Handing.{contents}
 use Rattle.van_box.specs.Sizes.{answer_head, answers_share}
 
-of_entry : (r : EntryRead) (a : AddressEntry) (n : ℕ) → entry_element r ≡ element a n → r ≡ Good a n
-of_entry (Good e m) a n q = let x : e ≡ a = cc in let y : m ≡ n = cc in rw (x, y)
-of_entry Bad a n q = let z : ◌≡◌ {A = ℕ} 0 1 = cc in absurd (omega arith)
+of_entry : (r : Option EntryRead) (a : AddressEntry) (n : ℕ) → entry_element r ≡ element a n → r ≡ Some (entry_read a n)
+of_entry (Some e) a n q = let x : e.entry ≡ a = cc in let y : e.size ≡ n = cc in rw (← x, ← y) refl
+of_entry None a n q = let z : ◌≡◌ {A = ℕ} 0 1 = cc in absurd (omega arith)
 
 -- ---- entries
 module _ (asked : Bool) where
@@ -64,9 +63,9 @@ module _ (asked : Bool) where
             length-drop n (b ∷ s),
           )
 
-  passed : (u : Verdict) (ds es : List AddressEntry) → passing u (all ds) ≡ all es → ds ≡ es
-  passed Go ds es e = cc
-  passed (Stop r) ds es e = let z : ◌≡◌ {A = ℕ} 0 1 = cc in absurd (omega arith)
+  passed : (u : Result Unit Refusal) (ds es : List AddressEntry) → passing u (all ds) ≡ all es → ds ≡ es
+  passed (Ok _) ds es e = cc
+  passed (Err r) ds es e = let z : ◌≡◌ {A = ℕ} 0 1 = cc in absurd (omega arith)
 
   entries-share : (v : List ℕ) (es : List AddressEntry) → elements_in (entry_format asked) asked max_addresses v ≡ all es
       → length (written (entry_format asked) es) ≤ answers_share * length v

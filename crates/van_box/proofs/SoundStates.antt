@@ -1,4 +1,5 @@
 -- A record leaves a sound state and a sound store sound, so that a program that starts with fresh ones never holds broken ones. Assumes nothing.
+use Rattle.std.proofs.Common.{Result, Ok, Err}
 use Prim.Native.Nat.{ℕ, zero, suc, ◌+◌, ◌-◌, ◌<◌, ◌≤◌}
 use mathlib.Core.Bool.{Bool, true, false}
 use mathlib.Core.Path.{◌≡◌, refl, sym, ap, ◌∙◌}
@@ -7,8 +8,7 @@ use native.Mathlib.Omega.{arith}
 use lib.Dec.{ltb, eqb}
 use lib.ListN.{length, get_or, drop, replicate, length-replicate}
 use lib.Seq.{get_or-drop, get_or-take}
-use Rattle.answer.specs.declared.Verdict.{Verdict}
-use Rattle.answer.specs.declared.Verdict.TheVariants.{Go, Stop}
+use Rattle.answer.specs.declared.Refusal.{Refusal}
 use Rattle.answer.specs.Choice.{pick}
 use Rattle.answer.specs.Verdict.{kept}
 use Rattle.octets.specs.Big.{Bytes}
@@ -72,9 +72,9 @@ step-sound : (m : Memory) (s : List ℕ) → Bytes s → Sound m → Sound (step
 unfolding stepped
 step-sound m s b k = of (hand_verdict m.state m.bytes capsule_room)
   where
-    of : (v : Verdict) → Sound (step_of v m (fed m.state m.bytes s)).memory
-    of Go = next-ready k s b
-    of (Stop r) = k
+    of : (v : Result Unit Refusal) → Sound (step_of v m (fed m.state m.bytes s)).memory
+    of (Ok _) = next-ready k s b
+    of (Err r) = k
 
 capsules-sound : (fuel : ℕ) (m : Memory) (s : List ℕ) → Bytes s → Sound m → Sound (capsules fuel m s).left
 unfolding capsules
@@ -112,9 +112,9 @@ part-beside w v a n l s h =
     let e : a + n ≤ length w = omega arith in
     record { size = length_with_part w a n v s e; store = part-after w a n v s e store_at store_words h }
 
-kept-beside : (v : Verdict) (new w : List ℕ) → Beside w new → Beside w (kept v new w)
-kept-beside Go new w t = t
-kept-beside (Stop r) new w t = record { size = refl; store = refl }
+kept-beside : (v : Result Unit Refusal) (new w : List ℕ) → Beside w new → Beside w (kept v new w)
+kept-beside (Ok _) new w t = t
+kept-beside (Err r) new w t = record { size = refl; store = refl }
 
 -- ---- a plan file, a list
 

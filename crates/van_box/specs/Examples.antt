@@ -1,6 +1,5 @@
 -- Records and their answers in the memory of a new tunnel, computed.
-use Rattle.std.specs.Prelude.{ℕ, ◌≡◌, refl, List, [], ◌∷◌, replicate, take}
-use Rattle.answer.specs.declared.Verdict.TheVariants.{Go}
+use Rattle.std.specs.Prelude.{ℕ, ◌≡◌, refl, List, [], ◌∷◌, replicate, take, Ok}
 use Rattle.varint.specs.Numbers.{encode, read_number}
 use Rattle.inet.specs.Packet.{form, form4, fixed6, form6}
 use Rattle.lists.specs.Rules.{sound_entry}
@@ -40,7 +39,7 @@ unfolding record_size
 cut_record = refl
 
 -- 258 bytes
-long-answer : take 4 (answer_bytes packet_kind Go (replicate 258 7)) ≡ 0x54 ∷ 0x00 ∷ 0x01 ∷ 0x02 ∷ []
+long-answer : take 4 (answer_bytes packet_kind (Ok tt) (replicate 258 7)) ≡ 0x54 ∷ 0x00 ∷ 0x01 ∷ 0x02 ∷ []
 long-answer = refl
 
 -- ---- the stream

@@ -1,10 +1,7 @@
 -- What each kind of record answers, and what it leaves in the state.
-use Rattle.std.specs.Prelude.{ℕ, zero, suc, Bool, true, false, ◌≡◌, List, [], ◌++◌, ltb, eqb, length, drop}
+use Rattle.std.specs.Prelude.{ℕ, zero, suc, Bool, true, false, ◌≡◌, List, [], ◌++◌, ltb, eqb, length, drop, Result, Ok, Err}
+use Rattle.answer.specs.declared.Refusal.{Refusal}
 use Rattle.answer.specs.declared.Refusal.TheVariants.{Incomplete}
-use Rattle.answer.specs.declared.Answer.{Answer}
-use Rattle.answer.specs.declared.Answer.TheVariants.{Done, Refused}
-use Rattle.answer.specs.declared.Verdict.{Verdict}
-use Rattle.answer.specs.declared.Verdict.TheVariants.{Go, Stop}
 use Rattle.answer.specs.Choice.{pick}
 use Rattle.answer.specs.Verdict.{output_of, kept}
 use Rattle.lists.specs.Words.{pack_entries, pack_ranges}
@@ -17,7 +14,7 @@ use Rattle.state.specs.State.{state_in}
 use Rattle.state.specs.Loading.{with_templates}
 use Rattle.exchange.specs.Writing.{ready, give_addresses, give_routes, entries_taken, ranges_taken}
 use Rattle.stream.specs.declared.feeding.Call.{Call}
-use Rattle.stream.specs.declared.feeding.Call.TheVariants.{Handed, Between, Wait, Stopped}
+use Rattle.stream.specs.declared.feeding.Call.TheVariants.{Handed, Between, Wait}
 use Rattle.stream.specs.Store.{Said, out, clean, wait, no, Fed}
 use Rattle.stream.specs.Feeding.{fed, on_out, state_fed}
 use Rattle.stream.specs.Handing.{contents, hand_verdict, handed_call}
@@ -82,7 +79,7 @@ unfoldable pub plan_outcome : List ℕ → List ℕ → Outcome (List ℕ)
 plan_outcome w file = leaving (answer_bytes plan_kind (plan_read file) []) (with_templates (plan_in file) w)
 
 -- a message to be written, and the state that is new where it is
-abbrev pub giving : ℕ → Verdict → List ℕ → List ℕ → List ℕ → Outcome (List ℕ)
+abbrev pub giving : ℕ → Result Unit Refusal → List ℕ → List ℕ → List ℕ → Outcome (List ℕ)
 giving kind v m new w = leaving (answer_bytes kind v m) (kept v new w)
 
 -- entries to assign, ranges to advertise: a good list becomes the given one
@@ -105,20 +102,20 @@ pub record Step : Type 0 where
   pub memory : Memory
 
 -- a memory that breaks its rules is refused, and stays
-abbrev pub step_of : Verdict → Memory → Fed → Step
-step_of Go m f = record { said = f.said; taken = f.taken; memory = memory (state_fed m.state f) (output_of Go f.store.kept m.bytes) }
-step_of (Stop r) m f = record { said = no r; taken = 0; memory = m }
+abbrev pub step_of : Result Unit Refusal → Memory → Fed → Step
+step_of (Ok _) m f = record { said = f.said; taken = f.taken; memory = memory (state_fed m.state f) (output_of (Ok tt) f.store.kept m.bytes) }
+step_of (Err r) m f = record { said = no r; taken = 0; memory = m }
 
 -- the bytes s are given, and there is room for what is handed out
 unfoldable pub stepped : Memory → List ℕ → Step
 stepped m s = step_of (hand_verdict m.state m.bytes capsule_room) m (fed m.state m.bytes s)
 
 -- 0 between capsules, and 1 in a capsule
-abbrev pub said_verdict : Said → Verdict
-said_verdict (out c) = Go
-said_verdict clean = Go
-said_verdict wait = Stop Incomplete
-said_verdict (no r) = Stop r
+abbrev pub said_verdict : Said → Result Unit Refusal
+said_verdict (out c) = Ok tt
+said_verdict clean = Ok tt
+said_verdict wait = Err Incomplete
+said_verdict (no r) = Err r
 
 abbrev pub said_answer : Said → List ℕ
 said_answer x = answer_bytes stream_kind (said_verdict x) (on_out contents [] x)
@@ -166,17 +163,17 @@ pub record Answers {A : Type 0} (x : Outcome A) (o : Output) (before : List ℕ)
   pub left : later ≡ x.left
 
 -- what a call says, as an answer
-abbrev pub call_answer : Call → Answer
-call_answer (Handed kind n) = Done n
-call_answer Between = Done 0
-call_answer Wait = Refused Incomplete
-call_answer (Stopped r) = Refused r
+abbrev pub call_answer : Result Call Refusal → Result ℕ Refusal
+call_answer (Ok (Handed kind n)) = Ok n
+call_answer (Ok Between) = Ok 0
+call_answer (Ok Wait) = Err Incomplete
+call_answer (Err r) = Err r
 
-abbrev pub is_handed : Call → Bool
-is_handed (Handed kind n) = true
-is_handed Between = false
-is_handed Wait = false
-is_handed (Stopped r) = false
+abbrev pub is_handed : Result Call Refusal → Bool
+is_handed (Ok (Handed kind n)) = true
+is_handed (Ok Between) = false
+is_handed (Ok Wait) = false
+is_handed (Err r) = false
 
 -- the answer to a call with the bytes s, whether it handed a capsule out, and how many bytes it took
 pub record AnswersPiece (m : Memory) (s : List ℕ) (o : Output) (before : List ℕ) (r : Stepped) (later : Memory) (after : List ℕ) : Type 0 where

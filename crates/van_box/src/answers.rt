@@ -1,16 +1,18 @@
 // What each kind of record answers: one library function each, which writes the answer's bytes behind the place of its head.
-// All answers of a record go to the output that is lent, and nothing is read or written here.
+// All answers of a record go to the output that is lent, and nothing is read or written here. Each is a call and its head, and no closure takes their place: it
+// would hold the state of which the contract speaks.
 ghost use Rattle.std.specs.Prelude.{◌≡◌, ◌+◌, ◌≤◌, length};
 ghost use Rattle.state.specs.State.{state_words};
+ghost use Rattle.stream.specs.Feeding.{call_by, taken_by};
 ghost use Rattle.van_box.specs.Sizes.{max_record, answer_room, record_room};
 ghost use Rattle.van_box.specs.Outgoing.{Appends};
 ghost use Rattle.van_box.specs.Records.{sent_answer, received_answer, request_answer, plan_outcome, assign_outcome, advertise_outcome};
 ghost use Rattle.van_box.specs.Records.{memory, call_answer, is_handed, stream_outcome, outcome, Answers, AnswersPiece};
 
 use crate::outgoing::{ANSWER_HEAD, Output, put_answer, put_unknown};
-use answer::{Answer, Refusal, Verdict};
+use answer::Refusal;
 use state::STATE_WORDS;
-use stream::{Call, KEPT_SIZE};
+use stream::{Call, KEPT_SIZE, Piece};
 
 // The output after a call, how many of the bytes it took, and whether it handed a capsule out.
 #[derive(Clone, Copy)]
@@ -36,28 +38,16 @@ pub(crate) fn answer_record(
     ensures { Answers (outcome kind (memory state.old kept.old) body.now) output out.old result
         (memory state.new kept.new) out.new }
 {
-    if kind == b'C' {
-        return stream_record(state, kept, body, out, output);
+    match kind {
+        b'C' => stream_record(state, kept, body, out, output),
+        b'P' => plan_record(state, body, out, output),
+        b'A' => assign_record(state, body, out, output),
+        b'R' => advertise_record(state, body, out, output),
+        b'Q' => request_record(body, out, output),
+        b'T' => packet_record(state, body, out, output),
+        b'D' => datagram_record(state, body, out, output),
+        _ => put_unknown(output, out),
     }
-    if kind == b'P' {
-        return plan_record(state, body, out, output);
-    }
-    if kind == b'A' {
-        return assign_record(state, body, out, output);
-    }
-    if kind == b'R' {
-        return advertise_record(state, body, out, output);
-    }
-    if kind == b'Q' {
-        return request_record(body, out, output);
-    }
-    if kind == b'T' {
-        return packet_record(state, body, out, output);
-    }
-    if kind == b'D' {
-        return datagram_record(state, body, out, output);
-    }
-    put_unknown(output, out)
 }
 
 // A packet from a tablet.
@@ -102,8 +92,8 @@ fn plan_record(
 {
     let verdict = state::load_plan(state, file);
     match verdict {
-        Verdict::Go => put_answer(output, out, b'P', Answer::Done(0)),
-        Verdict::Stop(why) => put_answer(output, out, b'P', Answer::Refused(why)),
+        Ok(()) => put_answer(output, out, b'P', Ok(0)),
+        Err(why) => put_answer(output, out, b'P', Err(why)),
     }
 }
 
@@ -163,6 +153,7 @@ fn stream_record(
 {
     let mut waiting = output;
     let mut at: usize = 0;
+    // no `for`: each call says how many bytes it took
     loop {
         let step = piece_record(state, kept, &bytes[at..], out, waiting);
         waiting = step.output;
@@ -190,36 +181,46 @@ fn piece_record(
         (memory state.new kept.new) out.new }
 {
     let start = output.used + ANSWER_HEAD;
-    let piece = stream::next_capsule(state, kept, bytes, &mut out[start..]);
-    let call = piece.call;
-    let answer = call_answer(call);
+    let read = stream::next_capsule(state, kept, bytes, &mut out[start..]);
+    let answer = call_answer(read);
     let answered = put_answer(output, out, b'C', answer);
     Stepped {
         output: answered,
-        taken: piece.taken,
-        handed: is_handed(call),
+        taken: taken_by(read),
+        handed: is_handed(read),
     }
 }
 
 // The answer to what a call says: 1 while a capsule is open.
-fn call_answer(call: Call) -> Answer
-    ensures { result ≡ call_answer call }
+fn call_answer(read: Result<Piece, Refusal>) -> Result<usize, Refusal>
+    ensures { result ≡ call_answer (call_by read) }
 {
-    match call {
-        Call::Handed { kind: _, length } => Answer::Done(length),
-        Call::Between => Answer::Done(0),
-        Call::Wait => Answer::Refused(Refusal::Incomplete),
-        Call::Stopped(why) => Answer::Refused(why),
+    match read?.call {
+        Call::Handed { kind: _, length } => Ok(length),
+        Call::Between => Ok(0),
+        Call::Wait => Err(Refusal::Incomplete),
     }
 }
 
-fn is_handed(call: Call) -> bool
-    ensures { result ≡ is_handed call }
+// How many bytes a call took; a refusal takes none.
+fn taken_by(read: Result<Piece, Refusal>) -> usize
+    ensures { result ≡ taken_by read }
 {
-    match call {
-        Call::Handed { kind: _, length: _ } => true,
-        Call::Between => false,
-        Call::Wait => false,
-        Call::Stopped(_) => false,
+    match read {
+        Ok(piece) => piece.taken,
+        Err(_) => 0,
     }
+}
+
+// Whether a call handed a capsule out.
+fn is_handed(read: Result<Piece, Refusal>) -> bool
+    ensures { result ≡ is_handed (call_by read) }
+{
+    matches!(
+        read,
+        Ok(Piece {
+            call: Call::Handed { .. },
+            ..
+        })
+    )
 }

@@ -57,10 +57,6 @@ pub(crate) fn keep(input: &mut [u8], at: usize, end: usize) -> usize
     if at == 0 {
         return left;
     }
-    let mut i: usize = 0;
-    while i < left {
-        input[i] = input[at + i];
-        i += 1;
-    }
+    input.copy_within(at..end, 0);
     left
 }

@@ -32,7 +32,8 @@ const GATHERED: usize = 65536;
 
 const OUTPUT: usize = GATHERED + RECORD_ROOM;
 
-// The box between two reads: how many bytes of an unfinished record the input holds, and whether there is more to do.
+// The box between two reads: how many bytes of an unfinished record the input holds, and whether there is more to do. A flag beside the number and no Option:
+// `Turns` speaks of what is held at the end too.
 #[derive(Clone, Copy)]
 pub struct Between {
     pub held: usize,
@@ -70,13 +71,11 @@ fn run(from: &mut impl Read, to: &impl Print) {
         open: true,
     };
     // No run uses the turns up.
-    let mut turns = u64::MAX;
-    while turns > 0 {
+    for _ in 0..u64::MAX {
         if !now.open {
             break;
         }
         now = turn(from, to, now, &mut state, &mut kept, &mut input, &mut out);
-        turns -= 1;
     }
 }
 
@@ -164,6 +163,7 @@ fn answer_records(
         open: true,
     };
     let mut at: usize = 0;
+    // no `for`: each record says where the next one starts
     while output.open {
         let n = record_size(bytes, at);
         if n < RECORD_HEAD {

@@ -5,7 +5,7 @@ ghost use Rattle.van_box.specs.Sizes.{answer_head, record_room};
 ghost use Rattle.van_box.specs.Outgoing.{unknown_answer, Appends, PutsHead, Flushes, MakesRoom};
 
 use crate::incoming::MAX_RECORD;
-use answer::{Answer, Refusal};
+use answer::Refusal;
 use capsule_write::CAPSULE_ROOM;
 
 // The bytes of an answer in front of its body.
@@ -22,7 +22,8 @@ const ANSWERS_SHARE: usize = 4;
 // is tried behind them.
 pub(crate) const RECORD_ROOM: usize = ANSWERS_SHARE * MAX_RECORD + 2 * ANSWER_ROOM;
 
-// How many bytes of answers wait at the front of the output, and whether it can be written.
+// How many bytes of answers wait at the front of the output, and whether it can be written. A flag beside the number and no Option: what puts an answer keeps the
+// flag as it is, and so does not look at it.
 #[derive(Clone, Copy)]
 pub struct Output {
     pub used: usize,
@@ -59,14 +60,19 @@ pub(crate) fn with_room(to: &impl Print, output: Output, out: &mut [u8]) -> Outp
 }
 
 // The head of an answer in front of its bytes, which stand in the output already.
-pub(crate) fn put_answer(output: Output, out: &mut [u8], kind: u8, answer: Answer) -> Output
+pub(crate) fn put_answer(
+    output: Output,
+    out: &mut [u8],
+    kind: u8,
+    answer: Result<usize, Refusal>,
+) -> Output
     requires { output.used + answer_head + answer_length answer ≤ length out.old }
     ensures { PutsHead kind answer output out.old result out.new }
 {
     let at = output.used;
-    let size = answer.length();
+    let size = answer::length_of(answer);
     out[at] = kind;
-    out[at + 1] = answer.number();
+    out[at + 1] = answer::number_of(&answer);
     out[at + 2] = (size / 256 % 256) as u8;
     out[at + 3] = (size % 256) as u8;
     let used = at + ANSWER_HEAD + size;
@@ -81,5 +87,5 @@ pub(crate) fn put_unknown(output: Output, out: &mut [u8]) -> Output
     requires { output.used + answer_head ≤ length out.old }
     ensures { Appends unknown_answer output out.old result out.new }
 {
-    put_answer(output, out, b'?', Answer::Refused(Refusal::Incomplete))
+    put_answer(output, out, b'?', Err(Refusal::Incomplete))
 }

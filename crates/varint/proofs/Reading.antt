@@ -1,4 +1,5 @@
 -- `read_number` by its two cases, and what a whole reading says. Assumes nothing.
+use Rattle.std.proofs.Common.{Option, Some, None}
 use Prim.Native.Nat.{ℕ, zero, suc, ◌+◌, ◌-◌, ◌*◌, ◌/◌, ◌%◌, ◌^◌, ◌<◌, ◌≤◌}
 use mathlib.Core.Path.{◌≡◌, refl, sym, ap, ◌∙◌}
 use mathlib.Core.List.{List, [], ◌∷◌, ◌++◌}
@@ -16,18 +17,18 @@ use Rattle.answer.specs.Choice.{pick}
 use Rattle.answer.proofs.Tests.{order}
 use Rattle.octets.specs.Big.{big_from, Bytes}
 use Rattle.octets.proofs.BigLaws as Big
-use Rattle.varint.specs.declared.NumberRead.TheVariants.{Whole, Cut}
-use Rattle.varint.specs.Numbers.{limit, form_size, read_number}
+use Rattle.varint.specs.Numbers.{limit, form_size, read_number, number, value_in}
+use Rattle.varint.specs.declared.Number.{Number}
 
 -- the value that a form of n bytes holds
 abbrev pub value_of : ℕ → List ℕ → ℕ
 value_of n s = big_from (get_or s 0 0 % 64) (take (n - 1) (drop 1 s))
 
-pub cut : (s : List ℕ) → length s < form_size s → Cut ≡ read_number s
+pub cut : (s : List ℕ) → length s < form_size s → None ≡ read_number s
 unfolding read_number
 cut s h = simp (lt-leb _ _ h)
 
-pub whole : (s : List ℕ) (n v : ℕ) → n ≡ form_size s → n ≤ length s → v ≡ value_of n s → Whole v n ≡ read_number s
+pub whole : (s : List ℕ) (n v : ℕ) → n ≡ form_size s → n ≤ length s → v ≡ value_of n s → Some (number v n) ≡ read_number s
 unfolding read_number
 whole s n v e h f =
     let g : form_size s ≤ length s = omega arith in
@@ -40,11 +41,16 @@ pub record Taken (s : List ℕ) (v n : ℕ) : Type 0 where
   pub some : 1 ≤ n
   pub value : v ≡ value_of n s
 
-picked : (t : Bool) (a b v n : ℕ) → pick t (Whole a b) Cut ≡ Whole v n → (t ≡ true) × (a ≡ v) × (b ≡ n)
-picked true a b v n e = (refl, cc, cc)
+-- how many bytes a reading took, 0 where there is none
+abbrev pub size_in : Option Number → ℕ
+size_in (Some q) = q.size
+size_in None = 0
+
+picked : (t : Bool) (a b v n : ℕ) → pick t (Some (number a b)) None ≡ Some (number v n) → (t ≡ true) × (a ≡ v) × (b ≡ n)
+picked true a b v n e = (refl, ap value_in e, ap size_in e)
 picked false a b v n e = let z : ◌≡◌ {A = ℕ} 0 1 = cc in absurd (omega arith)
 
-pub taken : (s : List ℕ) (v n : ℕ) → read_number s ≡ Whole v n → Taken s v n
+pub taken : (s : List ℕ) (v n : ℕ) → read_number s ≡ Some (number v n) → Taken s v n
 unfolding read_number
 taken s v n e =
     let p = picked (leb (form_size s) (length s)) (value_of (form_size s) s) (form_size s) v n e in
@@ -60,7 +66,7 @@ taken s v n e =
 pub form-below : (s : List ℕ) → Bytes s → get_or s 0 0 / 64 < 4
 form-below s h = omega (arith, h 0)
 
-pub size_cases : (s : List ℕ) (v n : ℕ) → Bytes s → read_number s ≡ Whole v n → (n ≡ 1) ⊎ ((n ≡ 2) ⊎ ((n ≡ 4) ⊎ (n ≡ 8)))
+pub size_cases : (s : List ℕ) (v n : ℕ) → Bytes s → read_number s ≡ Some (number v n) → (n ≡ 1) ⊎ ((n ≡ 2) ⊎ ((n ≡ 4) ⊎ (n ≡ 8)))
 size_cases s v n h e =
     let t = taken s v n e in
     let f = form-below s h in
@@ -91,19 +97,19 @@ value-bound s n h l =
     let p : 256 ^ (n - 1) ≤ 256 ^ 7 = pow-le-pow_right (lit< tt) {j = 7} (omega arith) in
     lt_of_lt_of_le (value-fits s n h) (mul-le-mul_left 64 p)
 
-pub size-most : (s : List ℕ) (v n : ℕ) → Bytes s → read_number s ≡ Whole v n → n ≤ 8
+pub size-most : (s : List ℕ) (v n : ℕ) → Bytes s → read_number s ≡ Some (number v n) → n ≤ 8
 size-most s v n h e =
     ⊎_elim (λ a. omega arith) (λ a. ⊎_elim (λ b. omega arith) (λ b. ⊎_elim (λ d. omega arith) (λ d. omega arith) b) a) (size_cases s v n h e)
 
 -- values are below the limit
-pub value-below : (s : List ℕ) (v n : ℕ) → Bytes s → read_number s ≡ Whole v n → v < limit
+pub value-below : (s : List ℕ) (v n : ℕ) → Bytes s → read_number s ≡ Some (number v n) → v < limit
 value-below s v n h e =
     let t = taken s v n e in
     let b = value-bound s n h (size-most s v n h e) in
     omega (arith, t.value, b)
 
 -- a number that is cut has fewer than 8 bytes
-pub cut_short : (s : List ℕ) → Bytes s → read_number s ≡ Cut → length s < 8
+pub cut_short : (s : List ℕ) → Bytes s → read_number s ≡ None → length s < 8
 cut_short s h e =
     ⊎_elim (λ l. let p : 2 ^ (get_or s 0 0 / 64) ≤ 2 ^ 3 = pow-le-pow_right (lit< tt) {j = 3} (omega (arith, form-below s h)) in omega arith)
     (λ l.
@@ -117,7 +123,7 @@ drop_one (suc n) [] = sym (take-nil (suc n - 1))
 drop_one (suc n) (x ∷ s) = rw sub-one
 
 -- a reading depends only on the bytes that it takes
-pub read-front : (s t : List ℕ) (v n : ℕ) → read_number s ≡ Whole v n → take n t ≡ take n s → n ≤ length t → read_number t ≡ Whole v n
+pub read-front : (s t : List ℕ) (v n : ℕ) → read_number s ≡ Some (number v n) → take n t ≡ take n s → n ≤ length t → read_number t ≡ Some (number v n)
 read-front s t v n e f l =
     let k = taken s v n e in
     let some : 0 < n = k.some in
@@ -125,7 +131,7 @@ read-front s t v n e f l =
     let b : take (n - 1) (drop 1 t) ≡ take (n - 1) (drop 1 s) = sym (drop_one n t) ∙ ap (drop 1) f ∙ drop_one n s in
     sym (whole t n v (k.form ∙ rw a) l (k.value ∙ rw (a, b)))
 
-pub read_append : (s t : List ℕ) (v n : ℕ) → read_number s ≡ Whole v n → read_number (s ++ t) ≡ Whole v n
+pub read_append : (s t : List ℕ) (v n : ℕ) → read_number s ≡ Some (number v n) → read_number (s ++ t) ≡ Some (number v n)
 read_append s t v n e =
     let k = taken s v n e in
     let w : n ≤ length s = k.within in

@@ -1,4 +1,5 @@
 -- Reading what `encode` writes gives the value back, and a reading of shortest size is what `encode` writes. Assumes nothing.
+use Rattle.std.proofs.Common.{Some}
 use Prim.Native.Nat.{ℕ, suc, ◌+◌, ◌-◌, ◌*◌, ◌/◌, ◌%◌, ◌^◌, ◌<◌}
 use mathlib.Core.Path.{◌≡◌, sym, ap, ◌∙◌}
 use mathlib.Core.List.{List, ◌∷◌, ◌++◌}
@@ -10,36 +11,35 @@ use lib.Seq.{drop-cons}
 use Rattle.answer.proofs.Tests.{order}
 use Rattle.octets.specs.Big.{big_from, digits, Bytes}
 use Rattle.octets.proofs.BigLaws as Big
-use Rattle.varint.specs.declared.NumberRead.TheVariants.{Whole}
-use Rattle.varint.specs.Numbers.{limit, encode, encoded_size, read_number}
+use Rattle.varint.specs.Numbers.{limit, encode, encoded_size, read_number, number, value_in}
 use Rattle.varint.proofs.Reading as Reading
 use Rattle.varint.proofs.Encoding as Encoding
 
-one : (v : ℕ) (rest : List ℕ) → v < 2 ^ 6 → read_number (digits 1 v ++ rest) ≡ Whole v 1
+one : (v : ℕ) (rest : List ℕ) → v < 2 ^ 6 → read_number (digits 1 v ++ rest) ≡ Some (number v 1)
 one v rest h =
     let e : v % 256 / 64 ≡ 0 = omega arith in
     sym (Reading.whole (digits 1 v ++ rest) 1 v (rw e) (omega arith) (omega arith))
 
-two : (v : ℕ) (rest : List ℕ) → v < 2 ^ 14 → read_number (digits 2 (2 ^ 14 + v) ++ rest) ≡ Whole v 2
+two : (v : ℕ) (rest : List ℕ) → v < 2 ^ 14 → read_number (digits 2 (2 ^ 14 + v) ++ rest) ≡ Some (number v 2)
 two v rest h =
     let l = digits 2 (2 ^ 14 + v) ++ rest in
     let e : get_or l 0 0 / 64 ≡ 1 = omega arith in
     sym (Reading.whole l 2 v (rw e) (omega arith) (omega arith))
 
-four : (v : ℕ) (rest : List ℕ) → v < 2 ^ 30 → read_number (digits 4 (2 ^ 31 + v) ++ rest) ≡ Whole v 4
+four : (v : ℕ) (rest : List ℕ) → v < 2 ^ 30 → read_number (digits 4 (2 ^ 31 + v) ++ rest) ≡ Some (number v 4)
 four v rest h =
     let l = digits 4 (2 ^ 31 + v) ++ rest in
     let e : get_or l 0 0 / 64 ≡ 2 = omega arith in
     sym (Reading.whole l 4 v (rw e) (omega arith) (omega arith))
 
-eight : (v : ℕ) (rest : List ℕ) → v < 2 ^ 62 → read_number (digits 8 (3 * 2 ^ 62 + v) ++ rest) ≡ Whole v 8
+eight : (v : ℕ) (rest : List ℕ) → v < 2 ^ 62 → read_number (digits 8 (3 * 2 ^ 62 + v) ++ rest) ≡ Some (number v 8)
 eight v rest h =
     let l = digits 8 (3 * 2 ^ 62 + v) ++ rest in
     let e : get_or l 0 0 / 64 ≡ 3 = omega arith in
     sym (Reading.whole l 8 v (rw e) (omega arith) (omega arith))
 
 -- what `encode` writes, with anything after it, reads as the value and as many bytes as were written
-pub read-encode : (v : ℕ) (rest : List ℕ) → v < limit → read_number (encode v ++ rest) ≡ Whole v (encoded_size v)
+pub read-encode : (v : ℕ) (rest : List ℕ) → v < limit → read_number (encode v ++ rest) ≡ Some (number v (encoded_size v))
 read-encode v rest h =
     ⊎_elim (λ a. rw (Encoding.size-one v a, Encoding.one v a) (one v rest a))
     (λ a.
@@ -56,8 +56,8 @@ pub encode-prefix : (v w : ℕ) (x y : List ℕ) → v < limit → w < limit →
 encode-prefix v w x y h k e =
     let a = read-encode v x h in
     let b = read-encode w y k in
-    let d : Whole v (encoded_size v) ≡ Whole w (encoded_size w) = sym a ∙ ap read_number e ∙ b in
-    cc
+    let d : Some (number v (encoded_size v)) ≡ Some (number w (encoded_size w)) = sym a ∙ ap read_number e ∙ b in
+    ap value_in d
 
 -- the bytes of a form are the digits of its value with the form's two bits in front
 module _ (s : List ℕ) (h : Bytes s) (k m : ℕ) (form : get_or s 0 0 / 64 ≡ k) (long : m < length s) where
@@ -117,6 +117,6 @@ module _ (s : List ℕ) (v : ℕ) (h : Bytes s) where
       (order k 1)
 
 -- a whole reading whose size is the shortest is `encode` of its value followed by the rest
-pub read-shortest : (s : List ℕ) (v n : ℕ) → Bytes s → read_number s ≡ Whole v n → n ≡ encoded_size v → s ≡ encode v ++ drop n s
+pub read-shortest : (s : List ℕ) (v n : ℕ) → Bytes s → read_number s ≡ Some (number v n) → n ≡ encoded_size v → s ≡ encode v ++ drop n s
 read-shortest s v n h e z =
     sym (take-append-drop n s) ∙ ap (λ (x : List ℕ). x ++ drop n s) (shortest-front s v h n (Reading.taken s v n e) z)

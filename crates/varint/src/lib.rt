@@ -8,7 +8,7 @@ ghost use Rattle.answer.specs.Verdict.{Writes};
 ghost use Rattle.output.specs.Places.{Put};
 ghost use Rattle.varint.specs.Numbers.{Read, reading_number, limit, encode, encoded_size, shortest, write_verdict};
 
-use answer::{Answer, Refusal};
+use answer::Refusal;
 
 // 2^62: the first value that no form holds.
 pub const LIMIT: u64 = 4611686018427387904;
@@ -16,40 +16,35 @@ pub const LIMIT: u64 = 4611686018427387904;
 // The least output that a number is written to, whatever its size.
 pub const ROOM: usize = 8;
 
-// A number at the front of some bytes, and how many bytes it took; or not all there.
-#[derive(Clone, Copy)]
-pub enum NumberRead {
-    Whole { value: u64, size: usize },
-    Cut,
+// A number at the front of some bytes, and how many bytes it took.
+#[derive(Clone, Copy, Debug, PartialEq, Eq)]
+pub struct Number {
+    pub value: u64,
+    pub size: usize,
 }
 
-impl NumberRead {
-    // 0 for a number that was read, 1 for one that is not all there.
-    pub fn number(self) -> u8
-        ensures { result ≡ reading_number self }
-    {
-        match self {
-            NumberRead::Whole { value: _, size: _ } => 0,
-            NumberRead::Cut => Refusal::Incomplete.number(),
-        }
-    }
+// 0 for a number that was read, 1 for one that is not all there.
+pub fn number_of(read: Option<Number>) -> u8
+    ensures { result ≡ reading_number read }
+{
+    answer::number_of(&read.ok_or(Refusal::Incomplete))
 }
 
-// The number at the front of the bytes.
-pub fn read(bytes: &[u8]) -> NumberRead
+// The number at the front of the bytes, where all of it is there.
+pub fn read(bytes: &[u8]) -> Option<Number>
     ensures { Read bytes.now result }
 {
     if bytes.len() == 0 {
-        return NumberRead::Cut;
+        return None;
     }
     let first = bytes[0];
     let size = size_of_form(first);
     if bytes.len() < size {
-        return NumberRead::Cut;
+        return None;
     }
     let top = (first % 64) as u64;
     let value = octets::big_from(top, &bytes[1..size]);
-    NumberRead::Whole { value, size }
+    Some(Number { value, size })
 }
 
 // How many bytes a number takes whose first byte this is.
@@ -70,16 +65,16 @@ fn size_of_form(first: u8) -> usize
 }
 
 // Writes the value in its shortest form to the front of out.
-pub fn write(value: u64, out: &mut [u8]) -> Answer
+pub fn write(value: u64, out: &mut [u8]) -> Result<usize, Refusal>
     ensures { Writes (write_verdict value (length out.old)) (encode value) out.old result out.new }
 {
     if out.len() < ROOM {
-        return Answer::Refused(Refusal::NoRoom);
+        return Err(Refusal::NoRoom);
     }
     if LIMIT <= value {
-        return Answer::Refused(Refusal::BadAddress);
+        return Err(Refusal::BadAddress);
     }
-    Answer::Done(put_number(out, 0, value))
+    Ok(put_number(out, 0, value))
 }
 
 // Puts the value in its shortest form at a place of the output, and returns the place behind it: for the writers above, which know that there is room.

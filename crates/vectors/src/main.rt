@@ -7,10 +7,22 @@ mod packet; // packet.rt: sending and receiving
 mod pieces; // pieces.rt: the stream in pieces
 mod plan_file; // plan_file.rt: plan files
 
-use answer::Verdict;
-use capsule::CapsuleRead;
-use std::io;
-use varint::NumberRead;
+use answer::Refusal;
+use capsule::{CapsuleRead, Kind};
+use print::{Hex, Refused, Written};
+use std::{fmt, io};
+use varint::Number;
+
+// A number as `varint` writes it, or the refusal.
+#[derive(Drop)]
+struct Encoded(u64);
+
+// What the bytes read as: the kind, the elements of the list, and where reading goes on; or the refusal.
+#[derive(Drop)]
+struct Reading<'a> {
+    bytes: &'a [u8],
+    read: Result<CapsuleRead, Refusal>,
+}
 
 fn main(rt: HostRuntime) -> io::Result<()> {
     numbers(&rt)?;
@@ -23,54 +35,38 @@ fn main(rt: HostRuntime) -> io::Result<()> {
 
 // Each number is read, and its value written again: a longer form is accepted, and not made.
 fn numbers(rt: &impl Print) -> io::Result<()> {
-    print::text(rt, b"numbers\n")?;
-    number(rt, b"\xc2\x19\x7c\x5e\xff\x14\xe8\x8c")?;
-    number(rt, b"\x9d\x7f\x3e\x7d")?;
-    number(rt, b"\x7b\xbd")?;
-    number(rt, b"\x25")?;
-    number(rt, b"\x40\x25")?;
-    number(rt, b"\xff\xff\xff\xff\xff\xff\xff\xff")?;
-    number(rt, b"\x9d\x7f\x3e")?;
-    number(rt, b"")?;
-    print::text(rt, b"too large ")?;
-    written(rt, 4611686018427387904)?;
-    print::text(rt, b"\n")
-}
-
-// The bytes, what they read as, and the value written.
-fn number(rt: &impl Print, bytes: &[u8]) -> io::Result<()> {
-    print::hex(rt, bytes)?;
-    print::text(rt, b" ")?;
-    let r = varint::read(bytes);
-    match r {
-        NumberRead::Whole { value, size } => {
-            whole(rt, value, size)?;
-        }
-        NumberRead::Cut => {
-            print::text(rt, b"refused ")?;
-            print::decimal(rt, r.number() as u64)?;
+    println!(rt; "numbers")?;
+    let numbers: [&[u8]; 8] = [
+        b"\xc2\x19\x7c\x5e\xff\x14\xe8\x8c",
+        b"\x9d\x7f\x3e\x7d",
+        b"\x7b\xbd",
+        b"\x25",
+        b"\x40\x25",
+        b"\xff\xff\xff\xff\xff\xff\xff\xff",
+        b"\x9d\x7f\x3e",
+        b"",
+    ];
+    for bytes in numbers {
+        let hex = Hex(bytes);
+        match varint::read(bytes) {
+            Some(Number { value, size }) => {
+                println!(rt; "{hex} {value} in {size} written {}", Encoded(value))?
+            }
+            None => println!(rt; "{hex} {}", Refused(Refusal::Incomplete))?,
         }
     }
-    print::text(rt, b"\n")
-}
-
-fn whole(rt: &impl Print, value: u64, size: usize) -> io::Result<()> {
-    print::decimal(rt, value)?;
-    print::text(rt, b" in ")?;
-    print::decimal(rt, size as u64)?;
-    print::text(rt, b" written ")?;
-    written(rt, value)
+    println!(rt; "too large {}", Encoded(1 << 62))
 }
 
 // Each capsule is read from the front of a buffer.
 fn capsules(rt: &impl Print) -> io::Result<()> {
-    print::text(rt, b"capsules\n")?;
+    println!(rt; "capsules")?;
     addresses(rt)?;
     forms(rt)?;
     rules(rt)?;
-    print::text(rt, b"cut ")?;
+    print!(rt; "cut ")?;
     cuts(rt, b"\x01\x07\x00\x04\xc0\x00\x02\x03\x20")?;
-    print::text(rt, b"walk\n")?;
+    println!(rt; "walk")?;
     walk(
         rt,
         b"\x01\x07\x00\x04\xc0\x00\x02\x03\x20\x52\x34\x03\x01\x02\x03\x00\x02\xaa\xbb\x03\x00\x02",
@@ -79,153 +75,143 @@ fn capsules(rt: &impl Print) -> io::Result<()> {
 
 // Each capsule of a buffer in turn, up to the first refusal.
 fn walk(rt: &impl Print, bytes: &[u8]) -> io::Result<()> {
-    let mut at: usize = 0;
+    let mut at = 0;
+    // a step is as long as the capsule that was read, so no range has these places
     while at < bytes.len() {
-        let r = walker::read_at(bytes, at);
-        read_as(rt, r, bytes)?;
-        print::text(rt, b"\n")?;
-        if r.next <= at {
+        let read = walker::read_at(bytes, at);
+        println!(rt; "{}", Reading { bytes, read })?;
+        let next = match read {
+            Ok(capsule) => capsule.next,
+            Err(_) => break,
+        };
+        if next <= at {
             break;
         }
-        at = r.next;
+        at = next;
     }
     Ok(())
 }
 
 fn addresses(rt: &impl Print) -> io::Result<()> {
-    capsule(rt, b"the example", b"\x01\x07\x00\x04\xc0\x00\x02\x03\x20")?;
-    capsule(rt, b"empty assignment", b"\x01\x00")?;
-    capsule(rt, b"empty request", b"\x02\x00")
+    read_each(
+        rt,
+        &[
+            ("the example", b"\x01\x07\x00\x04\xc0\x00\x02\x03\x20"),
+            ("empty assignment", b"\x01\x00"),
+            ("empty request", b"\x02\x00"),
+        ],
+    )
 }
 
 // Longer numbers, other types and lengths.
 fn forms(rt: &impl Print) -> io::Result<()> {
-    capsule(
+    read_each(
         rt,
-        b"longer numbers",
-        b"\x40\x01\x80\x00\x00\x08\x40\x00\x04\xc0\x00\x02\x03\x20",
-    )?;
-    capsule(rt, b"unknown type", b"\x52\x34\x03\x01\x02\x03")?;
-    capsule(
-        rt,
-        b"unknown type of length 2^62 - 1",
-        b"\x04\xff\xff\xff\xff\xff\xff\xff\xff\x00\x00\x00\x00\x00\x00\x00\x00",
-    )?;
-    capsule(rt, b"datagram", b"\x00\x03\x01\x02\x03")?;
-    capsule(rt, b"length 16384", b"\x01\x80\x00\x40\x00")?;
-    capsule(rt, b"length 16385", b"\x01\x80\x00\x40\x01")
+        &[
+            (
+                "longer numbers",
+                b"\x40\x01\x80\x00\x00\x08\x40\x00\x04\xc0\x00\x02\x03\x20",
+            ),
+            ("unknown type", b"\x52\x34\x03\x01\x02\x03"),
+            (
+                "unknown type of length 2^62 - 1",
+                b"\x04\xff\xff\xff\xff\xff\xff\xff\xff\x00\x00\x00\x00\x00\x00\x00\x00",
+            ),
+            ("datagram", b"\x00\x03\x01\x02\x03"),
+            ("length 16384", b"\x01\x80\x00\x40\x00"),
+            ("length 16385", b"\x01\x80\x00\x40\x01"),
+        ],
+    )
 }
 
 // Entries and ranges that break a rule, and no capsule.
 fn rules(rt: &impl Print) -> io::Result<()> {
-    capsule(rt, b"prefix 33", b"\x01\x07\x00\x04\xc0\x00\x02\x03\x21")?;
-    capsule(
+    read_each(
         rt,
-        b"bits beyond the prefix",
-        b"\x01\x07\x00\x04\xc0\x00\x02\x01\x18",
-    )?;
-    capsule(
-        rt,
-        b"range ends before it starts",
-        b"\x03\x0a\x04\xc6\x33\x64\x03\xc6\x33\x64\x02\x11",
-    )?;
-    capsule(
-        rt,
-        b"touching ranges",
-        b"\x03\x14\x04\xc6\x33\x64\x02\xc6\x33\x64\x09\x11\x04\xc6\x33\x64\x09\xc6\x33\x64\x0c\x11",
-    )?;
-    capsule(rt, b"no bytes", b"")
+        &[
+            ("prefix 33", b"\x01\x07\x00\x04\xc0\x00\x02\x03\x21"),
+            (
+                "bits beyond the prefix",
+                b"\x01\x07\x00\x04\xc0\x00\x02\x01\x18",
+            ),
+            (
+                "range ends before it starts",
+                b"\x03\x0a\x04\xc6\x33\x64\x03\xc6\x33\x64\x02\x11",
+            ),
+            (
+                "touching ranges",
+                b"\x03\x14\x04\xc6\x33\x64\x02\xc6\x33\x64\x09\x11\x04\xc6\x33\x64\x09\xc6\x33\x64\x0c\x11",
+            ),
+            ("no bytes", b""),
+        ],
+    )
 }
 
-// What a buffer reads as: its kind, the elements of its list, and where reading goes on; or the refusal.
-fn capsule(rt: &impl Print, name: &[u8], bytes: &[u8]) -> io::Result<()> {
-    print::text(rt, name)?;
-    print::text(rt, b": ")?;
-    let r = capsule::read(bytes, 0);
-    read_as(rt, r, bytes)?;
-    print::text(rt, b"\n")
-}
-
-fn read_as(rt: &impl Print, r: CapsuleRead, bytes: &[u8]) -> io::Result<()> {
-    let verdict = r.verdict;
-    match verdict {
-        Verdict::Go => found(rt, r, bytes),
-        Verdict::Stop(why) => print::refused(rt, why),
-    }
-}
-
-fn found(rt: &impl Print, r: CapsuleRead, bytes: &[u8]) -> io::Result<()> {
-    let start = r.start;
-    let next = r.next;
-    if r.kind == 0 {
-        return datagram(rt, start, r.length, next);
-    }
-    if r.kind == 4 {
-        return skipped(rt, next);
-    }
-    if start <= next && next <= bytes.len() {
-        return listed(rt, r.kind, &bytes[start..next], next);
+// What the front of each buffer reads as.
+fn read_each(rt: &impl Print, buffers: &[(&str, &[u8])]) -> io::Result<()> {
+    for (name, bytes) in buffers {
+        let read = capsule::read(bytes, 0);
+        println!(rt; "{name}: {}", Reading { bytes, read })?;
     }
     Ok(())
 }
 
-// The list of a value.
-fn listed(rt: &impl Print, kind: u64, value: &[u8], next: usize) -> io::Result<()> {
-    if kind == 1 {
-        return elements(rt, b"assigned ", entries(value, false), next);
-    }
-    if kind == 2 {
-        return elements(rt, b"requested ", entries(value, true), next);
-    }
-    let read = capsule::ranges_in(value);
-    let list = read.list;
-    elements(rt, b"advertised ", list.words[0], next)
-}
-
-fn entries(value: &[u8], request: bool) -> u64 {
-    let read = capsule::entries_in(value, request);
-    let list = read.list;
-    list.words[0]
-}
-
-fn datagram(rt: &impl Print, start: usize, length: usize, next: usize) -> io::Result<()> {
-    print::text(rt, b"datagram at ")?;
-    print::decimal(rt, start as u64)?;
-    print::text(rt, b" of ")?;
-    print::decimal(rt, length as u64)?;
-    print::text(rt, b" next ")?;
-    print::decimal(rt, next as u64)
-}
-
-fn elements(rt: &impl Print, kind: &[u8], count: u64, next: usize) -> io::Result<()> {
-    print::text(rt, kind)?;
-    print::decimal(rt, count)?;
-    print::text(rt, b" next ")?;
-    print::decimal(rt, next as u64)
-}
-
-fn skipped(rt: &impl Print, next: usize) -> io::Result<()> {
-    print::text(rt, b"skipped next ")?;
-    print::decimal(rt, next as u64)
-}
-
 // The number of each proper front of a capsule.
 fn cuts(rt: &impl Print, bytes: &[u8]) -> io::Result<()> {
-    let mut i = 0;
-    while i < bytes.len() {
-        cut(rt, &bytes[..i])?;
-        i += 1;
+    for end in 0..bytes.len() {
+        print!(rt; "{}", answer::number_of(&capsule::read(&bytes[..end], 0)))?;
     }
-    print::text(rt, b"\n")
+    println!(rt)
 }
 
-fn cut(rt: &impl Print, bytes: &[u8]) -> io::Result<()> {
-    let r = capsule::read(bytes, 0);
-    print::decimal(rt, r.number() as u64)
+impl fmt::Display for Encoded {
+    fn fmt<W: fmt::Write>(&self, f: &mut fmt::Formatter<W>) -> fmt::Result {
+        let mut out = [0; 8];
+        let answer = varint::write(self.0, &mut out);
+        write!(f, "{}", Written { answer, out: &out })
+    }
 }
 
-fn written(rt: &impl Print, value: u64) -> io::Result<()> {
-    let mut out = [0u8; 8];
-    let a = varint::write(value, &mut out);
-    print::written(rt, a, &out)
+impl fmt::Display for Reading<'_> {
+    fn fmt<W: fmt::Write>(&self, f: &mut fmt::Formatter<W>) -> fmt::Result {
+        let CapsuleRead {
+            kind,
+            start,
+            length,
+            next,
+        } = match self.read {
+            Ok(capsule) => capsule,
+            Err(why) => return write!(f, "{}", Refused(why)),
+        };
+        match (kind, self.bytes.get(start..next)) {
+            (Kind::Datagram, _) => write!(f, "datagram at {start} of {length} next {next}"),
+            (Kind::Other, _) => write!(f, "skipped next {next}"),
+            (Kind::AddressAssign, Some(value)) => {
+                write!(f, "assigned {} next {next}", entries(value, false))
+            }
+            (Kind::AddressRequest, Some(value)) => {
+                write!(f, "requested {} next {next}", entries(value, true))
+            }
+            (Kind::RouteAdvertisement, Some(value)) => {
+                write!(f, "advertised {} next {next}", ranges(value))
+            }
+            (_, None) => Ok(()),
+        }
+    }
+}
+
+// How many entries a value has.
+fn entries(value: &[u8], request: bool) -> u64 {
+    match capsule::entries_in(value, request) {
+        Ok(list) => list.words[0],
+        Err(_) => 0,
+    }
+}
+
+// How many ranges a value has.
+fn ranges(value: &[u8]) -> u64 {
+    match capsule::ranges_in(value) {
+        Ok(list) => list.words[0],
+        Err(_) => 0,
+    }
 }

@@ -1,19 +1,18 @@
 -- Laws of walking: a capsule is handed back and the walk goes on behind it, a refusal leaves the place, and at the end the answer is 1.
 -- So a buffer of written capsules gives each of them in order. Assumes nothing.
+use Rattle.std.proofs.Common.{Result, Ok, Err}
 use Prim.Native.Nat.{ℕ, suc, ◌+◌, ◌-◌, ◌≤◌}
 use mathlib.Core.Path.{◌≡◌, refl, sym, ap, ◌∙◌}
 use mathlib.Core.List.{List, [], ◌∷◌, ◌++◌, append_assoc, append-nil}
-use native.Mathlib.Nat.{zero-add}
 use native.Mathlib.Omega.{arith}
 use lib.ListN.{length, drop, length-append, drop_of_length-le}
 use lib.Seq.{drop-append_seam, drop-drop}
 use Rattle.answer.specs.declared.Refusal.{Refusal}
 use Rattle.answer.specs.declared.Refusal.TheVariants.{Incomplete}
-use Rattle.answer.specs.Number.{verdict_number}
-use Rattle.answer.specs.declared.Verdict.TheVariants.{Stop}
+use Rattle.answer.specs.Number.{answer_number}
 use Rattle.capsule.specs.declared.CapsuleRead.{CapsuleRead}
-use Rattle.capsule.specs.Capsules.{Capsule, kind_of, Reading, refused, capsule, read_capsule, frame_of, value_of, capsule_bytes}
-use Rattle.capsule.specs.Results.{refused_at, found_at, result_at, read_at}
+use Rattle.capsule.specs.Capsules.{Capsule, kind_of, refused, capsule, read_capsule, frame_of, value_of, capsule_bytes}
+use Rattle.capsule.specs.Results.{found_at, next_after, result_at, read_at}
 use Rattle.capsule.specs.Sound.{value_start}
 use Rattle.capsule.proofs.RoundTrip.{read-written, length_capsule}
 use Rattle.varint.specs.Numbers.{read_number}
@@ -23,29 +22,24 @@ use Rattle.walker.specs.Walk.{walk, capsules_bytes, found_all, AllWritable}
 
 -- a reading stays where it is, or goes on behind the capsule
 module _ (n : ℕ) (s : List ℕ) (at : ℕ) where
-  walk-read : (r : CapsuleRead) → read_at s at ≡ r → walk (suc n) s at ≡ r ∷ walk n s r.next
+  walk-read : (r : Result CapsuleRead Refusal) → read_at s at ≡ r → walk (suc n) s at ≡ r ∷ walk n s (next_after at r)
   unfolding walk
-  walk-read r e = ap (λ (x : CapsuleRead). x ∷ walk n s x.next) e
+  walk-read r e = ap (λ (x : Result CapsuleRead Refusal). x ∷ walk n s (next_after at x)) e
 
   -- whatever capsule stands at the place, written by the box or not
   pub walk-capsule : (c : Capsule) (start count : ℕ) → read_capsule (drop at s) ≡ capsule c start (start + count)
-      → walk (suc n) s at ≡ found_at at (kind_of c) start count ∷ walk n s (at + (start + count))
+      → walk (suc n) s at ≡ Ok (found_at at (kind_of c) start count) ∷ walk n s (at + (start + count))
   unfolding read_at
   walk-capsule c start count e =
       let z : start + count - start ≡ count = omega arith in
       let y : at + start + count ≡ at + (start + count) = omega arith in
-      walk-read (found_at at (kind_of c) start count) (ap (result_at at) e ∙ ap (found_at at (kind_of c) start) z)
-      ∙ ap (λ (i : ℕ). found_at at (kind_of c) start count ∷ walk n s i) y
+      walk-read (Ok (found_at at (kind_of c) start count)) (ap (result_at at) e ∙ ap (λ (k : ℕ). Ok (found_at at (kind_of c) start k)) z)
+      ∙ ap (λ (i : ℕ). Ok (found_at at (kind_of c) start count) ∷ walk n s i) y
 
   -- a refusal leaves the place
-  refused-place : (r : Reading) (w : Refusal) → (result_at at r).verdict ≡ Stop w → (result_at at r).next ≡ at
-  refused-place (refused q) w e = refl
-  refused-place (capsule c start size) w e = let z : ◌≡◌ {A = ℕ} 0 1 = cc in absurd (omega arith)
-
-  pub walk_refused : (r : Refusal) → (read_at s at).verdict ≡ Stop r → walk (suc n) s at ≡ read_at s at ∷ walk n s at
-  unfolding read_at
+  pub walk_refused : (r : Refusal) → read_at s at ≡ Err r → walk (suc n) s at ≡ read_at s at ∷ walk n s at
   walk_refused r e =
-      walk-read (read_at s at) refl ∙ ap (λ (i : ℕ). read_at s at ∷ walk n s i) (refused-place (read_capsule (drop at s)) r e)
+      walk-read (read_at s at) refl ∙ ap (λ (x : Result CapsuleRead Refusal). read_at s at ∷ walk n s (next_after at x)) e
 
 -- ---- no bytes left
 nothing-there : read_capsule [] ≡ refused Incomplete
@@ -53,17 +47,17 @@ unfolding read_capsule frame_of read_number
 nothing-there = refl
 
 module _ (s : List ℕ) (at : ℕ) (h : length s ≤ at) where
-  pub read-end : read_at s at ≡ refused_at at Incomplete
+  pub read-end : read_at s at ≡ Err Incomplete
   unfolding read_at
   read-end = ap (λ (t : List ℕ). result_at at (read_capsule t)) (drop_of_length-le s h) ∙ ap (result_at at) nothing-there
 
   -- the number is 1
-  pub end-number : verdict_number (read_at s at).verdict ≡ 1
-  end-number = ap (λ (r : CapsuleRead). verdict_number r.verdict) read-end
+  pub end-number : answer_number (read_at s at) ≡ 1
+  end-number = ap (λ (r : Result CapsuleRead Refusal). answer_number r) read-end
 
   -- and stays so
-  pub walk_end : (n : ℕ) → walk (suc n) s at ≡ refused_at at Incomplete ∷ walk n s at
-  walk_end n = walk_refused n s at Incomplete (ap (λ (r : CapsuleRead). r.verdict) read-end) ∙ ap (λ (r : CapsuleRead). r ∷ walk n s at) read-end
+  pub walk_end : (n : ℕ) → walk (suc n) s at ≡ Err Incomplete ∷ walk n s at
+  walk_end n = walk_refused n s at Incomplete read-end ∙ ap (λ (r : Result CapsuleRead Refusal). r ∷ walk n s at) read-end
 
 -- ---- capsules written one after the other
 
@@ -88,14 +82,13 @@ walk_more (c ∷ cs) ws n s at rest h =
     let more : length (c ∷ cs) + n ≡ suc (length cs + n) = omega arith in
     ap (λ (i : ℕ). walk i s at) more
     ∙ walk-capsule (length cs + n) s at c (value_start c) (length (value_of c)) first
-    ∙ ap (λ (l : List CapsuleRead). found_at at (kind_of c) (value_start c) (length (value_of c)) ∷ l)
+    ∙ ap (λ (l : List (Result CapsuleRead Refusal)). Ok (found_at at (kind_of c) (value_start c) (length (value_of c))) ∷ l)
     (ap (walk (length cs + n) s) place ∙ walk_more cs ws.1 n s (at + length b) rest there ∙ ap (λ (i : ℕ). found_all (at + length b) cs ++ walk n s i) ends)
 
 -- a buffer of any number of written capsules, walked from its front: each of them in order, then 1
 pub walk-written : (cs : List Capsule) → AllWritable cs
-    → walk (length cs + 1) (capsules_bytes cs) 0 ≡ found_all 0 cs ++ (refused_at (length (capsules_bytes cs)) Incomplete ∷ [])
+    → walk (length cs + 1) (capsules_bytes cs) 0 ≡ found_all 0 cs ++ (Err Incomplete ∷ [])
 unfolding walk
 walk-written cs ws =
     walk_more cs ws 1 (capsules_bytes cs) 0 [] (sym (append-nil (capsules_bytes cs)))
-    ∙ ap (λ (r : CapsuleRead). found_all 0 cs ++ (r ∷ [])) (read-end (capsules_bytes cs) (0 + length (capsules_bytes cs)) (omega arith))
-    ∙ ap (λ (i : ℕ). found_all 0 cs ++ (refused_at i Incomplete ∷ [])) (zero-add (length (capsules_bytes cs)))
+    ∙ ap (λ (r : Result CapsuleRead Refusal). found_all 0 cs ++ (r ∷ [])) (read-end (capsules_bytes cs) (0 + length (capsules_bytes cs)) (omega arith))

@@ -7,6 +7,7 @@ ghost use Rattle.std.specs.Prelude.{◌≡◌, ◌-◌, length};
 ghost use Rattle.capsule.specs.Results.{read_at};
 ghost use Rattle.walker.specs.Walk.{walker_at, behind};
 
+use answer::Refusal;
 use capsule::CapsuleRead;
 
 #[derive(Clone, Copy)]
@@ -34,19 +35,23 @@ impl<'a> Walker<'a> {
     }
 
     // What stands next.
-    pub fn next(self) -> CapsuleRead
+    pub fn next(self) -> Result<CapsuleRead, Refusal>
         ensures { result ≡ read_at self.entry.bytes.now self.entry.at }
     {
         capsule::read(self.bytes, self.at)
     }
 
     // Behind the capsule that was read: a refusal leaves the walker where it is.
-    pub fn after(self, read: CapsuleRead) -> Walker<'a>
+    pub fn after(self, read: Result<CapsuleRead, Refusal>) -> Walker<'a>
         ensures { result ≡ behind self.entry read }
     {
+        let at = match read {
+            Ok(read) => read.next,
+            Err(_) => self.at,
+        };
         Walker {
             bytes: self.bytes,
-            at: read.next,
+            at,
         }
     }
 
@@ -59,7 +64,7 @@ impl<'a> Walker<'a> {
 }
 
 // The capsule at a place of the buffer, by a walker: for callers that hold a plain slice and a place.
-pub fn read_at(bytes: &[u8], at: usize) -> CapsuleRead
+pub fn read_at(bytes: &[u8], at: usize) -> Result<CapsuleRead, Refusal>
     ensures { result ≡ read_at bytes.now at }
 {
     Walker::new(bytes).moved(at).next()
@@ -68,8 +73,5 @@ pub fn read_at(bytes: &[u8], at: usize) -> CapsuleRead
 fn left_at(bytes: &[u8], at: usize) -> usize
     ensures { result ≡ length bytes.now - at }
 {
-    if bytes.len() < at {
-        return 0;
-    }
-    bytes.len() - at
+    bytes.len().saturating_sub(at)
 }

@@ -12,8 +12,8 @@ returns-then-out-lt-CAPSULE_ROOM c = Frames.refused (Frames.no_room _ _ (omega a
 pub returns-then-value-gt-MAX_VALUE : goal.returns-then-value-gt-MAX_VALUE
 returns-then-value-gt-MAX_VALUE c = Frames.refused (Frames.room_says _ _ (omega arith) refl (Frames.value-over _ (omega arith)))
 
-pub put_many-end-requires : goal.put_many-end-requires
-put_many-end-requires c =
+pub put_bytes-end-requires : goal.put_bytes-end-requires
+put_bytes-end-requires c =
     let h = Frames.header-most 0 (length c.args.value.now) (omega arith) (omega arith) in
     omega arith
 
@@ -21,4 +21,4 @@ pub returns : goal.returns
 returns c =
     let v = c.args.value.now in
     Frames.wrote (Frames.room_says _ _ (omega arith) refl (Frames.value-goes _ (omega arith)))
-    (put_as (Frames.datagram-frame v) (Frames.put-frame 0 refl c.put_header-start.ensures c.put_many-end.ensures))
+    (put_as (Frames.datagram-frame v) (Frames.put-frame 0 refl c.put_header-start.ensures c.put_bytes-end.ensures))

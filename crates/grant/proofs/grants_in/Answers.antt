@@ -4,4 +4,4 @@ use Rattle.grant.proofs.grants_in.Goals as goal
 
 pub returns : goal.returns
 returns c =
-    Store.loaded c.args.state.now c.addresses_in-received_addresses.ensures c.routes_in-received_routes.ensures c.addresses_in-given_addresses.ensures c.routes_in-given_routes.ensures
+    Store.loaded c.args.state.now c.words_in.ensures c.words_in-2.ensures c.words_in-3.ensures c.words_in-4.ensures

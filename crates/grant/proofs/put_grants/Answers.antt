@@ -6,4 +6,4 @@ use Rattle.grant.proofs.put_grants.Goals as goal
 pub returns : goal.returns
 unfolding put_grants
 returns c =
-    Store.put_steps c.args.state.now c.put_addresses.ensures c.put_routes.ensures c.put_addresses-2.ensures c.put_routes-2.ensures
+    Store.put_steps c.args.state.now c.put_words.ensures c.put_words-2.ensures c.put_words-3.ensures c.put_words-4.ensures

@@ -5,21 +5,14 @@ use Rattle.lists.proofs.RangeRule as Range
 use Rattle.lists.proofs.Calls.{called_true, called_false}
 use Rattle.lists.proofs.range_sound.Goals as goal
 
-pub returns-then-not-at_most : goal.returns-then-not-at_most
-returns-then-not-at_most c = Range.reversed _ (called_false c.at_most.ensures c.if-not-at_most.true)
+pub returns-else-at_most : goal.returns-else-at_most
+returns-else-at_most c = c.if-at_most.false ∙ Range.reversed _ (called_false c.at_most.ensures c.if-at_most.false)
 
-pub returns-then-r-eq6 : goal.returns-then-r-eq6
-returns-then-r-eq6 c =
-    Range.ipv6_in_order _ (called_true c.at_most.ensures c.if-not-at_most.false) c.if-r-eq6.true (omega arith)
-
-pub returns-then-r-ne4 : goal.returns-then-r-ne4
-returns-then-r-ne4 c =
-    Range.other-version _ (called_true c.at_most.ensures c.if-not-at_most.false)
-    c.if-r-ne4.true c.if-r-eq6.false
-
-pub returns : goal.returns
-returns c =
+pub returns-then-r-eq4 : goal.returns-then-r-eq4
+returns-then-r-eq4 c =
     c.below.ensures
-    ∙ Range.ipv4_end_below _ (called_true c.at_most.ensures
-    c.if-not-at_most.false)
-    c.if-r-ne4.false (omega arith)
+    ∙ Range.ipv4_end_below _ (called_true c.at_most.ensures c.if-at_most.true) c.if-r-eq4.true (omega arith)
+
+pub returns-else-r-eq4 : goal.returns-else-r-eq4
+returns-else-r-eq4 c =
+    Range.not_ipv4 _ (called_true c.at_most.ensures c.if-at_most.true) c.if-r-eq4.false (omega arith)

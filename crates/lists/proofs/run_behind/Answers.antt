@@ -1,12 +1,7 @@
 -- The version of a sound range is 4 or 6. Assumes nothing.
-use mathlib.Core.Path.{◌∙◌}
 use Rattle.lists.specs.Words.{range_at}
 use Rattle.lists.proofs.RunLaws as Law
 use Rattle.lists.proofs.run_behind.Goals as goal
-
-pub run4-requires : goal.run4-requires
-run4-requires c =
-    record { route_words_in_bounds = c.requires.route_words_in_bounds; j_in_list = c.requires.j_in_list; range_j_sound = (c.requires.range_j_sound.0, c.requires.range_j_sound.1 ∙ c.if-version-eq4.true) }
 
 pub run6-requires : goal.run6-requires
 run6-requires c =

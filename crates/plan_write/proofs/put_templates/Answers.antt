@@ -3,10 +3,8 @@ use mathlib.Core.Path.{ap, sym}
 use native.Mathlib.Omega.{arith}
 use Rattle.output.proofs.Placing.{putting_none, putting_more, putting_done}
 use Rattle.table.specs.File.{templates_bytes}
-use Rattle.table.proofs.InTurn.{templates-all, templates-done, usable-turn}
-use Rattle.table.proofs.Judging.{words-at}
+use Rattle.table.proofs.InTurn.{templates-all, templates-done}
 use Rattle.plan_write.proofs.Parts.{templates-more, template-room}
-use borrow.Author.Rules.{rules}
 use Rattle.plan_write.proofs.put_templates.Goals as goal
 
 pub loop-i-init : goal.loop-i-init
@@ -16,14 +14,14 @@ pub put_template-next-requires : goal.put_template-next-requires
 put_template-next-requires c =
     let l = c.loop-i in
     let h = c.loop-i-test.true in
-    let e = words-at c.args.w.now l.i in
-    record { template_words_in_bounds = search rules; usable_template = usable-turn c.args.w.now l.i c.requires.usable h e; room = template-room c.args.w.now l.i _ h e l.invariant.1 c.requires.room }
+    let e = c.template_at.ensures in
+    template-room c.args.w.now l.i _ h e l.invariant.1 c.requires.room
 
 pub loop-i-preserved : goal.loop-i-preserved
 loop-i-preserved c =
     let l = c.loop-i in
     let h = c.loop-i-test.true in
-    (omega arith, putting_more l.invariant.1 (templates-more c.args.w.now l.i _ h (words-at c.args.w.now l.i)) c.put_template-next.ensures)
+    (omega arith, putting_more l.invariant.1 (templates-more c.args.w.now l.i _ h c.template_at.ensures) c.put_template-next.ensures)
 
 pub returns : goal.returns
 returns c = putting_done c.loop-i.invariant.1 (ap templates_bytes (templates-done c.args.w.now c.loop-i.i _ c.loop-i-test.false))

@@ -8,6 +8,3 @@ use Rattle.plan_write.proofs.put_templates.Given as goal
 
 abbrev pub invariant-loop-i : goal.invariant-loop-i
 invariant-loop-i l = (l.i ≤ l.n) × Putting (templates_bytes (templates_from l.w l.i (l.n - l.i))) (templates_bytes (templates_of l.w)) l.at l.initial.out l.next l.out
-
-abbrev pub decreases-loop-i : goal.decreases-loop-i
-decreases-loop-i l = l.n - l.i

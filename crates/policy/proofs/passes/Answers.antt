@@ -7,9 +7,9 @@ use Rattle.policy.proofs.passes.Goals as goal
 pub returns-then-granted : goal.returns-then-granted
 returns-then-granted c =
     let a = c.args in
-    sym (passes-granted (side_in a.side.now) (side_in a.reply.now) a.f (sym c.granted.ensures ∙ c.if-granted.true))
+    c.if-granted.true ∙ sym (passes-granted (side_in a.side.now) (side_in a.reply.now) a.f (sym c.granted.ensures ∙ c.if-granted.true))
 
-pub returns : goal.returns
-returns c =
+pub returns-else-granted : goal.returns-else-granted
+returns-else-granted c =
     let a = c.args in
-    passes_reply (side_in a.side.now) (side_in a.reply.now) a.f (sym c.granted.ensures ∙ c.if-granted.false) c.granted-2.ensures
+    passes_reply (side_in a.side.now) (side_in a.reply.now) a.f (sym c.granted.ensures ∙ c.if-granted.false) c.granted-else-granted.ensures

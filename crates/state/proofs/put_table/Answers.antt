@@ -10,4 +10,4 @@ use Rattle.state.proofs.put_table.Goals as goal
 pub returns : goal.returns
 returns c =
     let a = c.args in
-    ap (put_mid table_at table_words a.state.now) c.copy_words.ensures ∙ put-part a.state.now table_at store_at a.words.now (omega arith)
+    ap (put_mid table_at table_words a.state.now) c.copy_from_slice.ensures.after ∙ put-part a.state.now table_at store_at a.words.now (omega arith)

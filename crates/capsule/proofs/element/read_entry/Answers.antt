@@ -6,13 +6,13 @@ use Rattle.capsule.proofs.EntryCases as Entry
 use Rattle.capsule.proofs.element.read_entry.Goals as goal
 
 pub slice_bounds-read_body-count : goal.slice_bounds-read_body-count
-slice_bounds-read_body-count c = (Number.taken c.args.s.now _ _ (sym c.read-r.ensures.reading ∙ c.in-Whole.is)).within
+slice_bounds-read_body-count c = (Number.taken c.args.s.now _ _ (sym c.read.ensures.reading ∙ c.in_ok-id.was)).within
 
 pub slice_bounds-read_body-start : goal.slice_bounds-read_body-start
-slice_bounds-read_body-start c = (Number.taken c.args.s.now _ _ (sym c.read-r.ensures.reading ∙ c.in-Whole.is)).within
+slice_bounds-read_body-start c = (Number.taken c.args.s.now _ _ (sym c.read.ensures.reading ∙ c.in_ok-id.was)).within
 
-pub returns-in-Whole : goal.returns-in-Whole
-returns-in-Whole c = c.read_body.ensures ∙ (rw Parts.tail (Entry.body _ _ _ (sym c.read-r.ensures.reading ∙ c.in-Whole.is)))
+pub returns : goal.returns
+returns c = c.read_body.ensures ∙ (rw Parts.tail (Entry.body _ _ _ (sym c.read.ensures.reading ∙ c.in_ok-id.was)))
 
-pub returns-in-Cut : goal.returns-in-Cut
-returns-in-Cut c = Entry.cut _ (sym c.read-r.ensures.reading ∙ c.in-Cut.is)
+pub returns-in_err-id : goal.returns-in_err-id
+returns-in_err-id c = c.from_residual.ensures ∙ Entry.cut _ (sym c.read.ensures.reading ∙ c.in_err-id.was)

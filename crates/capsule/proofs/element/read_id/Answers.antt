@@ -3,21 +3,26 @@ use mathlib.Core.Path.{sym, ◌∙◌}
 use native.Mathlib.Omega.{arith}
 use Rattle.capsule.proofs.IdCases as Id
 use Rattle.capsule.proofs.element.read_id.Goals as goal
+use Rattle.capsule.proofs.element.read_id.Goals.{then-s-id-eq4, else-s-id-eq4}
 
-pub bounds-s-n : goal.bounds-s-n
-bounds-s-n c = omega (arith, Id.within c.args.s.now _ _ (sym c.read-r.ensures.reading ∙ c.in-Whole.is) c.requires)
+pub unwrap-id-requires : goal.unwrap-id-requires
+unwrap-id-requires c = rw c.read.ensures.reading (Id.there c.args.s.now c.requires)
 
 pub overflow_add-result : goal.overflow_add-result
-overflow_add-result c = omega (arith, Id.within c.args.s.now _ _ (sym c.read-r.ensures.reading ∙ c.in-Whole.is) c.requires)
+overflow_add-result c =
+    let q = sym c.read.ensures.reading ∙ c.unwrap-id.ensures in
+    elim c.if-s-id-eq4.branch [
+      | then-s-id-eq4 w ↦ rw w.body-is (omega (arith, Id.within c.args.s.now _ _ q c.requires))
+      | else-s-id-eq4 w ↦ rw w.body-is (omega (arith, Id.within-six c.args.s.now _ _ q c.requires w.if-s-id-eq4.false))
+    ]
 
-pub returns-then-s-n-eq4 : goal.returns-then-s-n-eq4
-returns-then-s-n-eq4 c = Id.four _ _ _ (sym c.read-r.ensures.reading ∙ c.in-Whole.is) c.if-s-n-eq4.true
+pub returns : goal.returns
+returns c =
+    let q = sym c.read.ensures.reading ∙ c.unwrap-id.ensures in
+    elim c.if-s-id-eq4.branch [
+      | then-s-id-eq4 w ↦ rw w.body-is (Id.four _ _ _ q w.if-s-id-eq4.true)
+      | else-s-id-eq4 w ↦ rw w.body-is (Id.six _ _ _ q w.if-s-id-eq4.false)
+    ]
 
-pub overflow_add-result-in-Whole : goal.overflow_add-result-in-Whole
-overflow_add-result-in-Whole c = omega (arith, Id.within-six c.args.s.now _ _ (sym c.read-r.ensures.reading ∙ c.in-Whole.is) c.requires c.if-s-n-eq4.false)
-
-pub returns-else-s-n-eq4 : goal.returns-else-s-n-eq4
-returns-else-s-n-eq4 c = Id.six _ _ _ (sym c.read-r.ensures.reading ∙ c.in-Whole.is) c.if-s-n-eq4.false
-
-pub returns-in-Cut : goal.returns-in-Cut
-returns-in-Cut c = Id.cut _ _ (sym c.read-r.ensures.reading ∙ c.in-Cut.is)
+pub bounds-s-id : goal.bounds-s-id
+bounds-s-id c = omega (arith, Id.within c.args.s.now _ _ (sym c.read.ensures.reading ∙ c.unwrap-id.ensures) c.requires)

@@ -14,11 +14,11 @@ returns-then-ids_ascend c =
     ∙ Ids.judged c.args.request c.args.value.now (c.if-not-request.false)
 
 pub returns-then-count-le-MAX_ADDRESSES : goal.returns-then-count-le-MAX_ADDRESSES
-returns-then-count-le-MAX_ADDRESSES c = c.few_refused.ensures ∙ Ids.judged c.args.request c.args.value.now (c.if-not-request.false)
+returns-then-count-le-MAX_ADDRESSES c = c.ids_refused_of.ensures ∙ Ids.judged c.args.request c.args.value.now (c.if-not-request.false)
 
-pub many_refused-requires : goal.many_refused-requires
-many_refused-requires c =
-    record { value_len_bound = c.requires.value_len_bound; ids_counted = c.requires.ids_counted; count_le_max_entries = omega (arith, c.requires.ids_counted, Ids.length_in c.args.value.now c.requires.value_len_bound) }
+pub ids_refused_of-requires-2 : goal.ids_refused_of-requires-2
+ids_refused_of-requires-2 c =
+    record { value_len_bound = c.requires.value_len_bound; ids_counted = c.requires.ids_counted; count_le = omega (arith, c.requires.ids_counted, Ids.length_in c.args.value.now c.requires.value_len_bound); room_le = omega arith }
 
 pub returns : goal.returns
-returns c = c.many_refused.ensures ∙ Ids.judged c.args.request c.args.value.now (c.if-not-request.false)
+returns c = c.ids_refused_of-2.ensures ∙ Ids.judged c.args.request c.args.value.now (c.if-not-request.false)

@@ -1,7 +1,7 @@
 -- The invariant: the first n words are the IDs read so far, none of them zero, and with those that are left they are all of the value's. So a good entry
 -- is in front as long as there are fewer than there are in all, and what is left after the loop is to compare them.
 use Prim.Native.Nat.{◌+◌, ◌<◌}
-use mathlib.Core.Path.{◌∙◌}
+use mathlib.Core.Path.{◌≡◌, ◌∙◌}
 use native.Mathlib.Omega.{arith}
 use lib.ListN.{length, set, length-take}
 use Rattle.octets.proofs.Parts as Parts
@@ -36,9 +36,6 @@ returns-then-r-eq0 c = T.zero_read c.loop-n.invariant (more (goal.at.returns-the
 pub bounds-ids-n : goal.bounds-ids-n
 bounds-ids-n c = omega (arith, c.loop-n.invariant.sized, (turned c).number)
 
-pub overflow_add-n : goal.overflow_add-n
-overflow_add-n c = omega (arith, (turned c).number)
-
 pub overflow_add-at : goal.overflow_add-at
 overflow_add-at c = omega (arith, (turned (goal.at.overflow_add-at c).Else-r-eq0).reading.within)
 
@@ -59,7 +56,11 @@ slice_bounds-repeats-end-4 c = simp length-take (omega (arith, c.loop-n.invarian
 
 pub repeats-requires : goal.repeats-requires
 repeats-requires c =
-    let f = T.fitting c.loop-n.invariant _ c.requires.spare_len c.requires.value_len_bound in record { spare_len = f.0; numbers_len_bound = f.1 }
+    let e : c.loop-n.n ≡ c.args.count = omega arith in
+    let f = T.fitting (rw e at c.loop-n.invariant) _ c.requires.spare_len c.requires.value_len_bound in
+    record { spare_len = f.0; numbers_len_bound = f.1 }
 
 pub returns : goal.returns
-returns c = c.repeats.ensures ∙ T.compare c.loop-n.invariant (omega (arith, c.requires.ids_counted, c.loop-n-test.false))
+returns c =
+    let e : c.loop-n.n ≡ c.args.count = omega arith in
+    c.repeats.ensures ∙ T.compare (rw e at c.loop-n.invariant) (omega (arith, c.requires.ids_counted))

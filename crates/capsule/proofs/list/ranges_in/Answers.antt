@@ -1,10 +1,10 @@
--- Where the verdict goes the words are the list; where it stops none is handed back, whatever was left in them.
-use mathlib.Core.Path.{◌∙◌}
+-- Where reading goes on the words are the list; a refusal is handed on.
 use Rattle.capsule.proofs.ListCases.{ranges-all, ranges-fault}
+use Rattle.answer.proofs.Passing.{passed_on}
 use Rattle.capsule.proofs.list.ranges_in.Goals as goal
 
-pub returns-in-Go : goal.returns-in-Go
-returns-in-Go c = ranges-all c.ranges_into-verdict.ensures c.in-Go.is
+pub returns : goal.returns
+returns c = ranges-all c.ranges_into.ensures c.in_ok-ranges_into.was
 
-pub returns-in-Stop : goal.returns-in-Stop
-returns-in-Stop c = c.no_ranges.ensures ∙ ranges-fault c.ranges_into-verdict.ensures c.in-Stop.is
+pub returns-in_err-ranges_into : goal.returns-in_err-ranges_into
+returns-in_err-ranges_into c = rw (passed_on _ _ c.from_residual.ensures.1) (ranges-fault c.ranges_into.ensures c.in_err-ranges_into.was)

@@ -1,12 +1,14 @@
 -- The invariant: the words hold the ranges read so far, the last of which is kept, and what is left to parse gives the whole answer. A turn is
 -- `RangesTurn`'s.
+use Rattle.std.proofs.Common.{Some}
 use Prim.Native.Nat.{◌+◌}
-use mathlib.Core.Path.{◌≡◌, sym, ◌∙◌}
+use Rattle.std.specs.Result.{result_ok}
+use mathlib.Core.Path.{◌≡◌, sym, ap, ◌∙◌}
+use Rattle.answer.proofs.Passing.{passed_on, lacking}
 use native.Mathlib.Omega.{arith}
 use lib.ListN.{drop}
 use Rattle.octets.proofs.Parts as Parts
-use Rattle.capsule.specs.declared.element.RangeRead.TheVariants.{Good}
-use Rattle.capsule.specs.Entries.{read_range}
+use Rattle.capsule.specs.Entries.{range_read, read_range}
 use Rattle.capsule.proofs.RangeCases as Range
 use Rattle.capsule.proofs.ListCases.{reads-fault}
 use Rattle.capsule.proofs.RangesTurn as T
@@ -14,13 +16,13 @@ use Rattle.capsule.proofs.list.read_ranges.Goals as goal
 use Rattle.capsule.proofs.list.read_ranges.Goals.{then-count-lt-MAX_RANGES, else-count-lt-MAX_RANGES, After-range_size-at, Joined-count-lt-MAX_RANGES}
 
 -- what was read in the turn
-got : (c : Joined-count-lt-MAX_RANGES) → read_range (drop c.loop-at.at c.args.value.now) ≡ Good c.in-Good.range c.in-Good.size
+got : (c : Joined-count-lt-MAX_RANGES) → read_range (drop c.loop-at.at c.args.value.now) ≡ Some (range_read c.in_ok-read.read.range c.in_ok-read.read.size)
 got c =
-    let q = sym c.read_range-r.ensures ∙ c.in-Good.is in
+    let q = sym c.read_range.ensures ∙ (c.ok_or.ensures.ok_part ∙ ap result_ok c.in_ok-read.was) in
     rw Parts.tail at q
 
 -- the invariant after the turn, where the branch's arms have met
-turned : (c : Joined-count-lt-MAX_RANGES) → T.Reading c.args.value.now c.if-count-lt-MAX_RANGES.words c.in-Good.range (c.loop-at.count + 1) (c.loop-at.at + c.in-Good.size)
+turned : (c : Joined-count-lt-MAX_RANGES) → T.Reading c.args.value.now c.if-count-lt-MAX_RANGES.words c.in_ok-read.read.range (c.loop-at.count + 1) (c.loop-at.at + c.in_ok-read.read.size)
 turned c =
     let i = c.loop-at.invariant in
     let o = sym c.in_order.ensures ∙ c.if-not-in_order.false in
@@ -30,9 +32,9 @@ turned c =
     ]
 
 -- the size that the version tells is the one that was read
-sized : (c : After-range_size-at) → c.in-Good.size ≡ c.range_size-at.result
+sized : (c : After-range_size-at) → c.in_ok-read.read.size ≡ c.range_size-at.result
 sized c =
-    let q = sym c.read_range-r.ensures ∙ c.in-Good.is in Range.size-version _ _ _ (rw Parts.tail at q) ∙ sym c.range_size-at.ensures
+    let q = sym c.read_range.ensures ∙ (c.ok_or.ensures.ok_part ∙ ap result_ok c.in_ok-read.was) in Range.size-version _ _ _ (rw Parts.tail at q) ∙ sym c.range_size-at.ensures
 
 pub loop-at-init : goal.loop-at-init
 loop-at-init c = T.start _ _ c.requires.words_blank c.before_all-last.ensures
@@ -44,7 +46,7 @@ pub slice_bounds-read_range-start : goal.slice_bounds-read_range-start
 slice_bounds-read_range-start c = omega (arith, c.loop-at.invariant.reading.within)
 
 pub returns-then-not-in_order : goal.returns-then-not-in_order
-returns-then-not-in_order c = reads-fault (T.fault-order c.loop-at.invariant (omega arith) _ _ (rw Parts.tail at (sym c.read_range-r.ensures ∙ c.in-Good.is)) (sym c.in_order.ensures ∙ c.if-not-in_order.true))
+returns-then-not-in_order c = reads-fault (T.fault-order c.loop-at.invariant (omega arith) _ _ (rw Parts.tail at (sym c.read_range.ensures ∙ (c.ok_or.ensures.ok_part ∙ ap result_ok c.in_ok-read.was))) (sym c.in_order.ensures ∙ c.if-not-in_order.true))
 
 pub overflow_add-count : goal.overflow_add-count
 overflow_add-count c = omega (arith, (turned c).reading.behind, (turned c).reading.within, (turned c).counted)
@@ -58,8 +60,10 @@ loop-at-smaller c = omega (arith, (Range.size _ _ _ (got (goal.at.loop-at-smalle
 pub loop-at-preserved : goal.loop-at-preserved
 loop-at-preserved c = rw (← sized c) (turned (goal.at.loop-at-preserved c).Joined-count-lt-MAX_RANGES)
 
-pub returns-in-Bad : goal.returns-in-Bad
-returns-in-Bad c = reads-fault (T.fault_range c.loop-at.invariant (omega arith) (rw Parts.tail at (sym c.read_range-r.ensures ∙ c.in-Bad.is)))
+pub returns-in_err-read : goal.returns-in_err-read
+returns-in_err-read c =
+    let l = lacking _ _ _ c.in_err-read.ensures.value in
+    rw (passed_on _ _ c.from_residual.ensures.1, l.1) (reads-fault (T.fault_range c.loop-at.invariant (omega arith) (rw Parts.tail at (sym c.read_range.ensures ∙ l.0))))
 
 pub returns-then-count-gt-MAX_RANGES : goal.returns-then-count-gt-MAX_RANGES
 returns-then-count-gt-MAX_RANGES c = reads-fault (T.many c.loop-at.invariant (omega arith) (omega arith))

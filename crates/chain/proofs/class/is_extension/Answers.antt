@@ -1,29 +1,16 @@
--- One number after the other. Assumes nothing.
-use mathlib.Core.Path.{refl}
+-- The numbers of the pattern are extension headers, and no others. Assumes nothing.
 use native.Mathlib.Omega.{arith}
-use Rattle.chain.specs.Chain.{class_of}
 use Rattle.chain.proofs.ClassRule.{extension, no-extension}
 use Rattle.chain.proofs.class.is_extension.Goals as goal
 
-pub returns-then-number-eq0 : goal.returns-then-number-eq0
-unfolding class_of
-returns-then-number-eq0 c = extension c.args.number {m = 0} (omega arith) refl
+pub returns-in_default : goal.returns-in_default
+returns-in_default c = no-extension _ (grind arith) (grind arith) (grind arith) (grind arith) (grind arith) (grind arith)
 
-pub returns-then-number-eq43 : goal.returns-then-number-eq43
-unfolding class_of
-returns-then-number-eq43 c = extension c.args.number {m = 43} (omega arith) refl
+pub returns-in_default-2 : goal.returns-in_default-2
+returns-in_default-2 c = no-extension _ (grind arith) (grind arith) (grind arith) (grind arith) (grind arith) (grind arith)
 
-pub returns-then-number-eq44 : goal.returns-then-number-eq44
-unfolding class_of
-returns-then-number-eq44 c = extension c.args.number {m = 44} (omega arith) refl
+pub returns-in-0 : goal.returns-in-0
+returns-in-0 c = extension _ (λ f0 f1 f2 f3 f4 f5. omega (arith, c.in-0.is))
 
-pub returns-then-number-eq51 : goal.returns-then-number-eq51
-unfolding class_of
-returns-then-number-eq51 c = extension c.args.number {m = 51} (omega arith) refl
-
-pub returns-then-number-eq60 : goal.returns-then-number-eq60
-unfolding class_of
-returns-then-number-eq60 c = extension c.args.number {m = 60} (omega arith) refl
-
-pub returns : goal.returns
-returns c = no-extension _ (λ e. omega arith) (λ e. omega arith) (λ e. omega arith) (λ e. omega arith) (λ e. omega arith)
+pub returns-in-0-2 : goal.returns-in-0-2
+returns-in-0-2 c = extension _ (λ f0 f1 f2 f3 f4 f5. omega arith)

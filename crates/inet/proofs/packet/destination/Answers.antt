@@ -7,5 +7,5 @@ use Rattle.inet.proofs.packet.destination.Goals as goal
 pub returns-then-version-eq4 : goal.returns-then-version-eq4
 returns-then-version-eq4 c = c.address4.ensures ∙ sym (destination_of_4 _ (omega arith))
 
-pub returns : goal.returns
-returns c = c.address6.ensures ∙ sym (destination_of_not_4 _ (λ e. omega arith))
+pub returns-else-version-eq4 : goal.returns-else-version-eq4
+returns-else-version-eq4 c = c.address6.ensures ∙ sym (destination_of_not_4 _ (λ e. omega arith))

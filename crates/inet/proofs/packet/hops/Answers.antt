@@ -7,4 +7,4 @@ use Rattle.inet.proofs.packet.hops.Goals as goal
 
 pub returns : goal.returns
 unfolding hops_of
-returns c = c.byte_at.ensures ∙ ap (λ (i : ℕ). get_or c.args.packet.now i 0) c.hop_place-at.ensures
+returns c = c.byte_at.ensures ∙ ap (λ (i : ℕ). get_or c.args.packet.now i 0) c.hop_place.ensures

@@ -1,6 +1,6 @@
 -- Each half of `high` and of `low` is the sum of the bytes of one place, below 65536 since no more than 256 are added. The halves, weighed as their
 -- bytes are in words, and the words still to come make the words of all. Assumes nothing.
-use Prim.Native.Nat.{ℕ, ◌≤◌, ◌*◌, ◌-◌, ◌+◌, ◌/◌, ◌%◌}
+use Prim.Native.Nat.{ℕ, ◌≤◌, ◌*◌, ◌+◌, ◌/◌, ◌%◌}
 use mathlib.Core.Path.{◌≡◌}
 use mathlib.Core.List.{List}
 use lib.ListN.{take, drop}
@@ -17,6 +17,3 @@ pub record Halves (t : List ℕ) (high low k : ℕ) : Type 0 where
 
 abbrev pub invariant-loop-k : goal.invariant-loop-k
 invariant-loop-k l = (l.k ≤ l.quads) × Halves (take (4 * l.quads) l.s) l.high l.low l.k
-
-abbrev pub decreases-loop-k : goal.decreases-loop-k
-decreases-loop-k l = l.quads - l.k

@@ -1,30 +1,49 @@
--- The sum so far and the words still to come make the words of all; no turn adds more than 65535. Assumes nothing.
-use Prim.Native.Nat.{ℕ, ◌*◌, ◌/◌, ◌+◌}
-use mathlib.Core.Path.{◌≡◌, ap}
+-- The words of three bytes, of two, of one and of none. Assumes nothing.
+use mathlib.Core.Path.{◌≡◌, refl}
+use mathlib.Core.List.{List, [], ◌∷◌}
+use Prim.Native.Nat.{ℕ, ◌*◌, ◌+◌, ◌-◌, ◌%◌, ◌≤◌, ◌<◌}
 use native.Mathlib.Omega.{arith}
-use lib.ListN.{length, drop}
+use lib.ListN.{length, get_or}
 use Rattle.inet.specs.Sum.{words}
-use Rattle.inet.proofs.WordLaws.{words_step, words_last, words-end}
+use Rattle.inet.proofs.WordLaws.{words_none}
+use Rattle.inet.proofs.sum.sum_pairs.Goals.{then-s-ge2, else-s-ge2, then-s-eq1, else-s-eq1}
 use Rattle.inet.proofs.sum.sum_pairs.Goals as goal
 
-next-pair : (k : ℕ) → 2 * (k + 1) ≡ 2 * k + 2
-next-pair k = omega arith
+-- the first two of them, and an odd last one
+both : (s : List ℕ) → length s ≤ 3 → 2 ≤ length s → length s % 2 ≡ 1 → get_or s 0 0 * 256 + get_or s 1 0 + get_or s (length s - 1) 0 * 256 ≡ words s
+unfolding words
+both (a ∷ b ∷ c ∷ []) l h k = refl
+both [] l h k = absurd (omega arith)
+both (a ∷ []) l h k = absurd (omega arith)
+both (a ∷ b ∷ []) l h k = absurd (omega arith)
+both (a ∷ b ∷ c ∷ d ∷ r) l h k = absurd (omega arith)
 
-pub loop-k-preserved : goal.loop-k-preserved
-loop-k-preserved c =
-    let l = c.loop-k in
-    let s = c.args.s.now in
-    omega (arith, words_step s (2 * l.k) (omega arith), ap (λ n. words (drop n s)) (next-pair l.k))
+pair : (s : List ℕ) → length s ≤ 3 → 2 ≤ length s → (length s % 2 ≡ 1 → ⊥) → get_or s 0 0 * 256 + get_or s 1 0 ≡ words s
+unfolding words
+pair (a ∷ b ∷ []) l h k = omega arith
+pair [] l h k = absurd (omega arith)
+pair (a ∷ []) l h k = absurd (omega arith)
+pair (a ∷ b ∷ c ∷ []) l h k = absurd (k refl)
+pair (a ∷ b ∷ c ∷ d ∷ r) l h k = absurd (omega arith)
 
-pub returns-then-i-s : goal.returns-then-i-s
-returns-then-i-s c =
-    let l = c.loop-k in
-    let s = c.args.s.now in
-    let e : l.k ≡ length s / 2 = omega arith in
-    omega (arith, words_last s (2 * (length s / 2)) (omega arith), ap (λ n. words (drop (2 * n) s)) e)
+odd : (s : List ℕ) → length s < 2 → length s % 2 ≡ 1 → get_or s (length s - 1) 0 * 256 ≡ words s
+unfolding words
+odd [] h k = absurd (omega arith)
+odd (a ∷ []) h k = refl
+odd (a ∷ b ∷ r) h k = absurd (omega arith)
 
 pub returns : goal.returns
 returns c =
-    let l = c.loop-k in
     let s = c.args.s.now in
-    omega (arith, words-end s (2 * l.k) (omega arith))
+    elim c.if-s-ge2.branch [
+      | then-s-ge2 w ↦
+          elim c.if-s-eq1.branch [
+            | then-s-eq1 v ↦ (omega (arith, both s (omega arith) (omega arith) (omega arith)), omega arith)
+            | else-s-eq1 v ↦ (omega (arith, pair s (omega arith) (omega arith) (λ e. omega arith)), omega arith)
+          ]
+      | else-s-ge2 w ↦
+          elim c.if-s-eq1.branch [
+            | then-s-eq1 v ↦ (omega (arith, odd s (omega arith) (omega arith)), omega arith)
+            | else-s-eq1 v ↦ (omega (arith, words_none s (omega arith)), omega arith)
+          ]
+    ]

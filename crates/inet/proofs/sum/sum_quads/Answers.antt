@@ -1,45 +1,46 @@
 -- The numbers so far and the words still to come fold to what all words fold to: the first word of four bytes counts 65536 times in their number, and
 -- that folds as once (`fold-high`). Assumes nothing.
-use Prim.Native.Nat.{ℕ, suc, ◌*◌, ◌+◌, ◌<◌}
-use mathlib.Core.Path.{◌≡◌, ap, ◌∙◌}
-use mathlib.Core.List.{List}
+use Prim.Native.Nat.{ℕ, ◌*◌, ◌+◌}
+use mathlib.Core.Path.{◌≡◌, sym, ap, ◌∙◌}
+use mathlib.Core.List.{List, [], ◌∷◌, ◌++◌}
 use native.Mathlib.Omega.{arith}
-use lib.ListN.{length, drop, get_or}
-use lib.Seq.{drop-cons}
+use lib.ListN.{length, length-append}
+use Rattle.std.specs.Slice.Iter.{chunks_exact_rest}
 use Rattle.octets.specs.Big.{big_at}
 use Rattle.inet.specs.Sum.{words, fold}
-use Rattle.inet.proofs.WordLaws.{words_quad, words-end, fold-high}
+use Rattle.inet.proofs.WordLaws.{words_none, fold-high}
 use Rattle.inet.proofs.sum.sum_quads.Goals as goal
 
--- the number of four bytes is that of two words
-big-quad : (s : List ℕ) (i : ℕ) → i + 3 < length s
-    → big_at i 4 s ≡ 65536 * (get_or s i 0 * 256 + get_or s (i + 1) 0) + (get_or s (i + 2) 0 * 256 + get_or s (i + 3) 0)
-big-quad s i h =
-    let one : i + 1 ≡ suc i = omega arith in
-    let two : i + 2 ≡ suc (suc i) = omega arith in
-    let three : i + 3 ≡ suc (suc (suc i)) = omega arith in
-    rw (one, two, three, drop-cons s i 0 (omega arith), drop-cons s (suc i) 0 (omega arith), drop-cons s (suc (suc i)) 0 (omega arith), drop-cons s (suc (suc (suc i))) 0 (omega arith))
-    (omega arith)
-
 -- one turn
-next-quad : (s : List ℕ) (i acc n : ℕ) → i + 3 < length s → n ≡ big_at i 4 s → fold (acc + n + words (drop (i + 4) s)) ≡ fold (acc + words (drop i s))
-next-quad s i acc n h e =
-    let a = get_or s i 0 * 256 + get_or s (i + 1) 0 in
-    let b = get_or s (i + 2) 0 * 256 + get_or s (i + 3) 0 in
-    let r = words (drop (i + 4) s) in
-    let x : acc + n + r ≡ acc + b + r + 65536 * a = omega (arith, e ∙ big-quad s i h) in
-    let y : acc + b + r + a ≡ acc + words (drop i s) = omega (arith, words_quad s i h) in
-    ap fold x ∙ fold-high a (acc + b + r) ∙ ap fold y
+next-quad : (q r : List ℕ) (acc n : ℕ) → length q ≡ 4 → n ≡ big_at 0 4 q → fold (acc + n + words r) ≡ fold (acc + words (q ++ r))
+unfolding words
+next-quad (a ∷ b ∷ c ∷ d ∷ []) r acc n h e =
+    let x : acc + n + words r ≡ acc + (c * 256 + d) + words r + 65536 * (a * 256 + b) = omega (arith, e) in
+    let y : acc + (c * 256 + d) + words r + (a * 256 + b) ≡ acc + (a * 256 + b + (c * 256 + d + words r)) = omega arith in
+    ap fold x ∙ fold-high (a * 256 + b) (acc + (c * 256 + d) + words r) ∙ ap fold y
+next-quad [] r acc n h e = absurd (omega arith)
+next-quad (a ∷ []) r acc n h e = absurd (omega arith)
+next-quad (a ∷ b ∷ []) r acc n h e = absurd (omega arith)
+next-quad (a ∷ b ∷ c ∷ []) r acc n h e = absurd (omega arith)
+next-quad (a ∷ b ∷ c ∷ d ∷ f ∷ q) r acc n h e = absurd (omega arith)
 
-pub loop-i-preserved : goal.loop-i-preserved
-loop-i-preserved c =
-    let l = c.loop-i in
-    let s = c.args.s.now in
-    (omega arith, omega arith, omega arith, next-quad s l.i l.acc c.big_at-acc.result (omega arith) c.big_at-acc.ensures.0 ∙ l.invariant.3)
+pub loop-quad-preserved : goal.loop-quad-preserved
+loop-quad-preserved c =
+    let l = c.loop-quad in
+    let q = c.in-Some.quad.now in
+    let r = chunks_exact_rest c.next.new.self in
+    let s = c.in-Some.ensures.steps in
+    let n = ap length s.1.0 ∙ length-append q r in (
+      s.0 ∙ l.invariant.0,
+      omega arith,
+      omega arith,
+      next-quad q r l.acc c.big_at-acc.result (s.1.1 ∙ l.invariant.0) c.big_at-acc.ensures.0 ∙ ap (λ (p : List ℕ). fold (l.acc + words p)) (sym s.1.0) ∙ l.invariant.3,
+    )
 
+-- fewer than four bytes are left, and their number is a multiple of 4
 pub returns : goal.returns
 returns c =
-    let l = c.loop-i in
-    let s = c.args.s.now in
-    let e : l.acc ≡ l.acc + words (drop l.i s) = omega (arith, words-end s l.i (omega arith)) in
+    let l = c.loop-quad in
+    let s = c.in-None.ensures.steps in
+    let e : l.acc ≡ l.acc + words (chunks_exact_rest l.quad-iterator) = omega (arith, words_none (chunks_exact_rest l.quad-iterator) (omega arith)) in
     (ap fold e ∙ l.invariant.3, omega arith)

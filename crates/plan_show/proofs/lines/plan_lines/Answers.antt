@@ -12,15 +12,15 @@ use Rattle.plan_show.proofs.lines.plan_lines.Goals as goal
 pub put_table-requires : goal.put_table-requires
 put_table-requires c =
     let b : Bytes c.args.file.now = λ i. omega (arith, c.type_inv.file i) in
-    (read-go c.args.file.now c.read_plan-verdict.ensures b c.in-Go.is).sound
+    (read-go c.args.file.now c.read_plan.ensures b c.in-Ok.is).sound
 
 pub put_last-requires : goal.put_last-requires
 put_last-requires c = omega (arith, refused-most c.number.result (omega arith))
 
-pub returns-in-Go : goal.returns-in-Go
-returns-in-Go c =
+pub returns-in-Ok : goal.returns-in-Ok
+returns-in-Ok c =
     let b : Bytes c.args.file.now = λ i. omega (arith, c.type_inv.file i) in
-    put_as (read-go c.args.file.now c.read_plan-verdict.ensures b c.in-Go.is).lines c.put_table.ensures
+    put_as (read-go c.args.file.now c.read_plan.ensures b c.in-Ok.is).lines c.put_table.ensures
 
-pub returns-in-Stop : goal.returns-in-Stop
-returns-in-Stop c = put_as (ap (last_labelled (ascii "refused ")) c.number.ensures ∙ read-stop c.args.file.now c.read_plan-verdict.ensures c.in-Stop.is) c.put_last.ensures
+pub returns-in-Err : goal.returns-in-Err
+returns-in-Err c = put_as (ap (last_labelled (ascii "refused ")) c.number.ensures ∙ read-stop c.args.file.now c.read_plan.ensures c.in-Err.is) c.put_last.ensures

@@ -8,7 +8,6 @@ use Rattle.plan_show.specs.Lines.{last_labelled, template_lines}
 use Rattle.plan_show.proofs.Rooms.{room-first, room_next}
 use Rattle.plan_show.proofs.Parts.{table_parts}
 use Rattle.plan_show.proofs.Sizes.{table_room}
-use borrow.Author.Rules.{rules}
 use Rattle.plan_show.proofs.lines.put_table.Goals as goal
 
 pub put_last-first-requires : goal.put_last-first-requires
@@ -16,10 +15,14 @@ put_last-first-requires c =
     let room = table_room c.args.w.now c.args.out.now c.requires (omega arith) in
     room-first (last_labelled (ascii "plan 1 templates ") (count_in c.args.w.now)) (template_lines (templates_of c.args.w.now)) 0 room
 
-pub put_templates-requires : goal.put_templates-requires
-put_templates-requires c =
+pub put_templates-requires-clause-usable : goal.put_templates-requires-clause-usable
+put_templates-requires-clause-usable c =
+    table_usable c.args.w.now c.requires
+
+pub put_templates-requires-clause-w_in_bounds : goal.put_templates-requires-clause-w_in_bounds
+put_templates-requires-clause-w_in_bounds c =
     let room = table_room c.args.w.now c.args.out.now c.requires (omega arith) in
-    record { table_words_in_bounds = search rules; usable = table_usable c.args.w.now c.requires; w_in_bounds = room_next (last_labelled (ascii "plan 1 templates ") (count_in c.args.w.now)) (template_lines (templates_of c.args.w.now)) c.put_last-first.ensures room }
+    room_next (last_labelled (ascii "plan 1 templates ") (count_in c.args.w.now)) (template_lines (templates_of c.args.w.now)) c.put_last-first.ensures room
 
 pub returns : goal.returns
 returns c = put_as (table_parts c.args.w.now) (put_then c.put_last-first.ensures c.put_templates.ensures)

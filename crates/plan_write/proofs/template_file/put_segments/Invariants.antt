@@ -7,7 +7,4 @@ use Rattle.plan_write.proofs.Parts.{pieces_from}
 use Rattle.plan_write.proofs.template_file.put_segments.Given as goal
 
 abbrev pub invariant-loop-j : goal.invariant-loop-j
-invariant-loop-j l = (l.j ≤ l.n) × Putting (pieces_bytes (pieces_from l.t l.j (l.n - l.j))) (pieces_bytes (template_of l.t).pieces) l.at l.initial.out l.next l.out
-
-abbrev pub decreases-loop-j : goal.decreases-loop-j
-decreases-loop-j l = l.n - l.j
+invariant-loop-j l = (l.j ≤ l.n) × Putting (pieces_bytes (pieces_from l.t.words.now l.j (l.n - l.j))) (pieces_bytes (template_of l.t.words.now).pieces) l.at l.initial.out l.next l.out

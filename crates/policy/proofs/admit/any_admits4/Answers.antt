@@ -7,16 +7,12 @@ use Rattle.lists.proofs.ListScans as Lists
 use Rattle.policy.specs.Granted.{admits}
 use Rattle.policy.proofs.AdmitLaws as Admit
 use Rattle.policy.proofs.admit.any_admits4.Goals as goal
-use Rattle.policy.proofs.admit.any_admits4.Goals.{then-lo-w+then-w-b+else-admits, then-lo-w+else-w-b, else-lo-w}
+use Rattle.policy.proofs.admit.any_admits4.Goals.{then-lo-w+then-w-b+else-admits, else-lo-w, else-lo-w-via-then-lo-w+else-w-b, else-lo-w-via-else-lo-w}
 
 pub loop-i-init : goal.loop-i-init
 loop-i-init c =
     let a = c.args in
     (Lists.ranges-within a.w.now c.requires.routes_sound, Lists.any_range a.w.now (admits a.a a.protocol a.icmp))
-
-pub returns-then-admits : goal.returns-then-admits
-returns-then-admits c =
-    Scans.any_hit c.loop-i.invariant.1 c.loop-i-test.true c.range_at-r.ensures (sym c.admits.ensures ∙ c.if-admits.true)
 
 pub loop-i-preserved : goal.loop-i-preserved
 loop-i-preserved c =
@@ -27,10 +23,9 @@ loop-i-preserved c =
       v.0,
       elim c.if-lo-w.branch [
         | then-lo-w+then-w-b+else-admits w ↦ Scans.any_miss v.1 h w.range_at-r.ensures (sym w.admits.ensures ∙ w.if-admits.false)
-        | then-lo-w+else-w-b w ↦ Scans.any_miss v.1 h refl (Admit.skip-before a.w.now c.requires.routes_sound i h a.a a.protocol a.icmp c.requires.version_4 (omega (arith, w.if-w-b.false)))
-        | else-lo-w w ↦ Scans.any_miss v.1 h refl (Admit.skip-past a.w.now c.requires.routes_sound i h a.a a.protocol a.icmp c.requires.version_4 (omega (arith, w.if-lo-w.false)))
+        | else-lo-w w ↦ elim w.else-lo-w.branch [
+          | else-lo-w-via-then-lo-w+else-w-b u ↦ Scans.any_miss v.1 h refl (Admit.skip-before a.w.now c.requires.routes_sound i h a.a a.protocol a.icmp c.requires.version_4 (omega (arith, u.if-w-b.false)))
+          | else-lo-w-via-else-lo-w u ↦ Scans.any_miss v.1 h refl (Admit.skip-past a.w.now c.requires.routes_sound i h a.a a.protocol a.icmp c.requires.version_4 (omega (arith, u.if-lo-w.false)))
+        ]
       ],
     )
-
-pub returns : goal.returns
-returns c = Scans.any_end c.loop-i.invariant.1 c.loop-i-test.false

@@ -1,6 +1,6 @@
 -- The invariant: what the ranges from i on say is the answer (`Seeking`); each turn is `any_hit` or `any_miss`. A range that the low words rule
 -- out is a miss (`skip-past`, `skip-before`), since it is sound. Assumes nothing.
-use Prim.Native.Nat.{◌-◌, ◌≤◌}
+use Prim.Native.Nat.{◌≤◌}
 use Rattle.octets.specs.Scan.{any_of}
 use Rattle.lists.specs.Words.{max_ranges, range_at, ranges_of}
 use Rattle.octets.proofs.Scans as Scans
@@ -9,6 +9,3 @@ use Rattle.policy.proofs.admit.any_admits4.Given as goal
 
 abbrev pub invariant-loop-i : goal.invariant-loop-i
 invariant-loop-i l = (l.n ≤ max_ranges) × Scans.Seeking (admits l.a l.protocol l.icmp) (range_at l.w) l.n (any_of (admits l.a l.protocol l.icmp) (ranges_of l.w)) l.i
-
-abbrev pub decreases-loop-i : goal.decreases-loop-i
-decreases-loop-i l = l.n - l.i

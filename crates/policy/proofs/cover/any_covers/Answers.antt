@@ -10,13 +10,6 @@ loop-i-init c =
     let a = c.args in
     Lists.any_entry a.w.now (covers a.a)
 
-pub returns-then-covers : goal.returns-then-covers
-returns-then-covers c =
-    Scans.any_hit c.loop-i.invariant c.loop-i-test.true c.entry_at-e.ensures (sym c.covers.ensures ∙ c.if-covers.true)
-
 pub loop-i-preserved : goal.loop-i-preserved
 loop-i-preserved c =
     Scans.any_miss c.loop-i.invariant c.loop-i-test.true c.entry_at-e.ensures (sym c.covers.ensures ∙ c.if-covers.false)
-
-pub returns : goal.returns
-returns c = Scans.any_end c.loop-i.invariant c.loop-i-test.false

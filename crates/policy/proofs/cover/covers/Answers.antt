@@ -1,16 +1,22 @@
 -- Each return is a case of `covers`: another version, other high bits, or whether the entry is a declined request. Assumes nothing.
-use Rattle.lists.proofs.Calls.{called_true, called_false}
+use mathlib.Core.Bool.{true≢false}
+use mathlib.Core.Path.{sym, ◌∙◌}
+use borrow.Author.Tests.{ne_eqb}
 use Rattle.policy.proofs.CoverLaws as Cover
 use Rattle.policy.proofs.cover.covers.Goals as goal
+use Rattle.policy.proofs.cover.covers.Goals.{then-e-a, else-e-a}
 
-pub returns-then-e-a : goal.returns-then-e-a
-returns-then-e-a c = Cover.covers-other_version _ _ c.if-e-a.true
+pub returns-then-same_high : goal.returns-then-same_high
+returns-then-same_high c =
+    elim c.if-e-a.branch [
+      | then-e-a w ↦ Cover.covers_agreeing _ _ w.if-e-a.true w.beyond.ensures (sym w.same_high.ensures ∙ sym w.value-is ∙ c.if-same_high.true) c.is_declined.ensures
+      | else-e-a w ↦ absurd (true≢false (sym c.if-same_high.true ∙ w.value-is ∙ ne_eqb _ _ w.if-e-a.false))
+    ]
 
-pub returns-then-not-same_high : goal.returns-then-not-same_high
-returns-then-not-same_high c =
-    let a = c.args in
-    Cover.covers-apart a.a a.e c.beyond.ensures (called_false c.same_high.ensures c.if-not-same_high.true)
-
-pub returns : goal.returns
-returns c =
-    Cover.covers_agreeing _ _ c.if-e-a.false c.beyond.ensures (called_true c.same_high.ensures c.if-not-same_high.false) c.is_declined.ensures
+pub returns-else-same_high : goal.returns-else-same_high
+returns-else-same_high c =
+    c.if-same_high.false
+    ∙ elim c.if-e-a.branch [
+      | then-e-a w ↦ Cover.covers-apart c.args.a c.args.e w.beyond.ensures (sym w.same_high.ensures ∙ sym w.value-is ∙ c.if-same_high.false)
+      | else-e-a w ↦ Cover.covers-other_version _ _ w.if-e-a.false
+    ]

@@ -8,8 +8,8 @@ returns-then-a_hi-b_hi c =
     let a = c.args in
     High.high-differ a.k a.a_hi a.a_lo a.b_hi a.b_lo (omega arith) (omega arith) (omega arith) c.if-a_hi-b_hi.true
 
-pub returns-then-k-lt64 : goal.returns-then-k-lt64
-returns-then-k-lt64 c =
+pub returns-else-a_hi-b_hi : goal.returns-else-a_hi-b_hi
+returns-else-a_hi-b_hi c =
     let a = c.args in
     High.high_same_low a.k a.a_hi a.a_lo a.b_hi a.b_lo (omega arith) c.if-a_hi-b_hi.false
 
@@ -18,7 +18,7 @@ returns-then-k-lt128 c =
     let a = c.args in
     High.high_same_high a.k a.a_hi a.a_lo a.b_hi a.b_lo (omega arith) (omega arith) (omega arith)
 
-pub returns : goal.returns
-returns c =
+pub returns-else-k-lt128 : goal.returns-else-k-lt128
+returns-else-k-lt128 c =
     let a = c.args in
     High.high_same_none a.k a.a_hi a.a_lo a.b_hi a.b_lo (omega arith) (omega arith) (omega arith) (omega arith) (omega arith)

@@ -3,4 +3,4 @@ use Rattle.output.proofs.Placing.{put_then}
 use Rattle.stream.proofs.feeding.gather.Goals as goal
 
 pub returns : goal.returns
-returns c = put_then c.put_many-n.ensures c.put_many.ensures
+returns c = put_then c.put_bytes-n.ensures c.put_bytes.ensures

@@ -6,7 +6,7 @@ pub returns-then-kept-eq0 : goal.returns-then-kept-eq0
 returns-then-kept-eq0 c = head-none c.args.kept.now c.args.bytes.now c.if-kept-eq0.true c.read_head.ensures
 
 pub head_across-requires : goal.head_across-requires
-head_across-requires c = head_few c.args.kept.now c.in-Cut.is c.requires
+head_across-requires c = head_few c.args.kept.now c.in-None.is c.requires
 
-pub returns-in-Known : goal.returns-in-Known
-returns-in-Known c = head-kept c.args.kept.now c.args.bytes.now c.in-Known.is c.requires
+pub returns-in-Some : goal.returns-in-Some
+returns-in-Some c = head-kept c.args.kept.now c.args.bytes.now c.in-Some.is c.requires

@@ -1,21 +1,32 @@
 -- All but a request is handed back as `feed` hands it out; of a request the output was left as it was (`hands_request`). Assumes nothing.
+use Rattle.std.proofs.Common.{rules}
+use mathlib.Core.Logic.{⊎_elim}
+use mathlib.Core.Path.{sym, ◌∙◌}
+use denote.Enum.Bare.{same_true, same_false}
+use Rattle.answer.proofs.Passing.{passed_on}
+use Rattle.capsule.specs.contracts.Kind.{the_type}
 use Rattle.stream.proofs.HandCases as Hand
 use Rattle.stream.proofs.handing.next_capsule.Goals as goal
 
 pub returns-then-out-lt-CAPSULE_ROOM : goal.returns-then-out-lt-CAPSULE_ROOM
 returns-then-out-lt-CAPSULE_ROOM c = Hand.hands_no_room _ _ _ _ c.if-out-lt-CAPSULE_ROOM.true
 
-pub returns-then-kind-eq2 : goal.returns-then-kind-eq2
-returns-then-kind-eq2 c = Hand.hands_request _ _ _ _ c.if-out-lt-CAPSULE_ROOM.false c.feed-read.ensures c.in-Handed.is c.if-kind-eq2.true c.put_request_value-answer.ensures c.length-n.ensures
+pub returns-in_err-read : goal.returns-in_err-read
+returns-in_err-read c =
+    rw (passed_on _ _ c.from_residual.ensures.1)
+    (Hand.hands_same _ _ _ _ c.if-out-lt-CAPSULE_ROOM.false (rw c.in_err-read.was at c.feed.ensures) Hand.not_stopped)
 
-pub returns-else-kind-eq2 : goal.returns-else-kind-eq2
-returns-else-kind-eq2 c = Hand.hands_same _ _ _ _ c.if-out-lt-CAPSULE_ROOM.false c.feed-read.ensures (Hand.not_request c.in-Handed.is c.if-kind-eq2.false)
+pub returns-then-is_request : goal.returns-then-is_request
+returns-then-is_request c =
+    Hand.hands_request _ _ _ _ c.if-out-lt-CAPSULE_ROOM.false c.feed.ensures c.in_ok-read.was c.in-Handed.is
+    (same_true the_type (search rules) _ _ (sym c.eq-is_request.ensures ∙ c.if-is_request.true)) c.put_request_value-answer.ensures c.length_of-n.ensures
+
+pub returns-else-is_request : goal.returns-else-is_request
+returns-else-is_request c =
+    Hand.hands_same _ _ _ _ c.if-out-lt-CAPSULE_ROOM.false (rw c.in_ok-read.was at c.feed.ensures)
+    (Hand.not_request c.in_ok-read.read c.in-Handed.is (same_false the_type _ _ (sym c.eq-is_request.ensures ∙ c.if-is_request.false)))
 
 pub returns-in-Between : goal.returns-in-Between
-returns-in-Between c = Hand.hands_same _ _ _ _ c.if-out-lt-CAPSULE_ROOM.false c.feed-read.ensures (Hand.not_between c.in-Between.is)
-
-pub returns-in-Wait : goal.returns-in-Wait
-returns-in-Wait c = Hand.hands_same _ _ _ _ c.if-out-lt-CAPSULE_ROOM.false c.feed-read.ensures (Hand.not_wait c.in-Wait.is)
-
-pub returns-in-Stopped : goal.returns-in-Stopped
-returns-in-Stopped c = Hand.hands_same _ _ _ _ c.if-out-lt-CAPSULE_ROOM.false c.feed-read.ensures (Hand.not_stopped c.in-Stopped.is)
+returns-in-Between c =
+    Hand.hands_same _ _ _ _ c.if-out-lt-CAPSULE_ROOM.false (rw c.in_ok-read.was at c.feed.ensures)
+    (⊎_elim (Hand.not_between c.in_ok-read.read) (Hand.not_wait c.in_ok-read.read) c.in-Between.is)

@@ -4,16 +4,16 @@ use Rattle.stream.proofs.CaseLaws as Case
 use Rattle.stream.proofs.store.is_open.Goals as goal
 
 pub returns-then-kind-gt3 : goal.returns-then-kind-gt3
-returns-then-kind-gt3 c = Case.open_other c.args.s.now c.requires c.in-Known.is c.if-kind-gt3.true
+returns-then-kind-gt3 c = Case.open_other c.args.s.now c.requires c.in-Some.is c.if-kind-gt3.true
 
 pub returns-then-length : goal.returns-then-length
-returns-then-length c = Case.open_long c.args.s.now c.requires c.in-Known.is c.if-kind-gt3.false c.if-length.true
+returns-then-length c = Case.open_long c.args.s.now c.requires c.in-Some.is c.if-kind-gt3.false c.if-length.true
 
 pub overflow_add-result : goal.overflow_add-result
-overflow_add-result c = let b = Case.open_bounds c.args.s.now c.requires c.in-Known.is in omega (arith, b.0, c.if-length.false)
+overflow_add-result c = let b = Case.open_bounds c.args.s.now c.requires c.in-Some.is in omega (arith, b.0, c.if-length.false)
 
-pub returns-else-length : goal.returns-else-length
-returns-else-length c = Case.open_value c.args.s.now c.requires c.in-Known.is c.if-kind-gt3.false c.if-length.false
+pub returns : goal.returns
+returns c = Case.open_value c.args.s.now c.requires c.in-Some.is c.if-kind-gt3.false c.if-length.false
 
-pub returns-in-Cut : goal.returns-in-Cut
-returns-in-Cut c = Case.open_cut c.args.s.now c.requires c.in-Cut.is
+pub returns-in_default : goal.returns-in_default
+returns-in_default c = Case.open_cut c.args.s.now c.requires c.in_default.is

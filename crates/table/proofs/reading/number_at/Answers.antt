@@ -1,23 +1,30 @@
--- `number_at`: A number of shortest form, one of a longer form, and one that is cut. Assumes nothing.
-use mathlib.Core.Path.{refl, sym, ◌∙◌}
-use native.Mathlib.Omega.{arith}
-use Rattle.table.proofs.Steps.{number-stop, number_cut, number-end, number-long, number-fine}
+-- A number of shortest form, one of a longer form, and one that is cut. Assumes nothing.
+use Rattle.std.proofs.Common.{◌≡◌, ap, ◌∙◌, Some, arith}
+use Rattle.std.specs.Result.{result_ok}
+use Rattle.answer.proofs.Passing.{passed_on, lacking}
+use Rattle.table.proofs.Calls.{called_true, called_false}
+use Rattle.table.proofs.Steps.{number_cut, number-end, number-long, number-fine}
+use Rattle.table.proofs.reading.number_at.Goals.{In_ok-number}
 use Rattle.table.proofs.reading.number_at.Goals as goal
 
+whole : (c : In_ok-number) → c.read.result ≡ Some c.in_ok-number.number
+whole c = c.ok_or.ensures.ok_part ∙ ap result_ok c.in_ok-number.was
+
+pub returns-in_err-number : goal.returns-in_err-number
+returns-in_err-number c =
+    let none = lacking _ _ _ c.in_err-number.ensures.value in
+    rw (passed_on _ _ c.from_residual.ensures.1, none.1) (number_cut c.args.bytes.now c.args.at c.read.ensures.reading none.0)
+
+pub returns-then-not-is_shortest : goal.returns-then-not-is_shortest
+returns-then-not-is_shortest c =
+    number-long c.args.bytes.now c.args.at c.read.ensures.reading (whole (goal.at.returns-then-not-is_shortest c).In_ok-number)
+    (called_false c.is_shortest.ensures c.if-not-is_shortest.true)
+
 pub overflow_add-result : goal.overflow_add-result
-overflow_add-result c = let a = c.args in omega (arith, number-end a.bytes.now a.at c.read-number.ensures.reading c.in-Whole.is c.requires)
+overflow_add-result c =
+    omega (arith, number-end c.args.bytes.now c.args.at c.read.ensures.reading (whole (goal.at.overflow_add-result c).In_ok-number) c.requires)
 
-pub returns-then-is_shortest : goal.returns-then-is_shortest
-returns-then-is_shortest c = let a = c.args in number-fine a.bytes.now a.at c.read-number.ensures.reading c.in-Whole.is c.requires (sym c.is_shortest.ensures ∙ c.if-is_shortest.true) refl
-
-pub returns-else-is_shortest : goal.returns-else-is_shortest
-returns-else-is_shortest c =
-    let a = c.args in
-    number-stop a.bytes.now a.at c.no_number.ensures
-    (number-long a.bytes.now a.at c.read-number.ensures.reading c.in-Whole.is (sym c.is_shortest.ensures ∙ c.if-is_shortest.false))
-
-pub returns-in-Cut : goal.returns-in-Cut
-returns-in-Cut c =
-    let a = c.args in
-    number-stop a.bytes.now a.at c.no_number-in-Cut.ensures
-    (number_cut a.bytes.now a.at c.read-number.ensures.reading c.in-Cut.is)
+pub returns : goal.returns
+returns c =
+    number-fine c.args.bytes.now c.args.at c.read.ensures.reading (whole (goal.at.returns c).In_ok-number) c.requires
+    (called_true c.is_shortest.ensures c.if-not-is_shortest.false)

@@ -1,10 +1,6 @@
 -- The invariant is `Pasting`: the first i bytes are in the words.
-use Prim.Native.Nat.{◌-◌}
 use Rattle.table.proofs.Pasting.{Pasting}
 use Rattle.table.proofs.reading.paste.Given as goal
 
 abbrev pub invariant-loop-i : goal.invariant-loop-i
 invariant-loop-i l = Pasting l.bytes l.start l.size l.place l.initial.t l.t l.i
-
-abbrev pub decreases-loop-i : goal.decreases-loop-i
-decreases-loop-i l = l.size - l.i

@@ -1,22 +1,32 @@
 -- Each return is one case of `body_in`; with a checksum the words are those of the whole template.
-use native.Mathlib.Omega.{arith}
-use Rattle.table.proofs.Bodies.{body-stop, body-cut, body-over, body-pieces, body-sum}
+use Rattle.answer.proofs.Passing.{passed_on}
+use Rattle.table.proofs.Bodies.{body-cut, body-over, body-pieces, body-summed, body-sum}
 use Rattle.table.proofs.reading.read_body.Goals as goal
 
 pub returns-then-bytes-at : goal.returns-then-bytes-at
-returns-then-bytes-at c = body-stop c.args.bytes.now c.args.t.now c.requires.t_len c.not_stored.ensures (body-cut c.args.bytes.now c.args.at c.args.id c.if-bytes-at.true)
+returns-then-bytes-at c =
+    record { size = c.requires.t_len; told = body-cut c.args.bytes.now c.args.at c.args.id c.if-bytes-at.true }
 
 pub returns-then-n-gt-MAX_SEGMENTS : goal.returns-then-n-gt-MAX_SEGMENTS
-returns-then-n-gt-MAX_SEGMENTS c = body-stop c.args.bytes.now c.args.t.now c.requires.t_len c.not_stored-then-n-gt-MAX_SEGMENTS.ensures (body-over c.args.bytes.now c.args.at c.args.id c.if-bytes-at.false c.if-n-gt-MAX_SEGMENTS.true)
+returns-then-n-gt-MAX_SEGMENTS c =
+    record { size = c.requires.t_len; told = body-over c.args.bytes.now c.args.at c.args.id c.if-bytes-at.false c.if-n-gt-MAX_SEGMENTS.true }
 
-pub read_segments-parts-requires : goal.read_segments-parts-requires
-read_segments-parts-requires c = record { t_len = c.requires.t_len; t_blank = c.requires.t_blank; at_in_bounds = (omega arith, omega (arith, c.if-n-gt-MAX_SEGMENTS.false)) }
+pub returns-in_err-behind : goal.returns-in_err-behind
+returns-in_err-behind c =
+    let f = c.in_err-behind.ensures in
+    rw (passed_on _ _ c.from_residual.ensures.1)
+    (record { size = f.size; told = body-pieces c.args.bytes.now c.args.at c.args.id c.if-bytes-at.false c.if-n-gt-MAX_SEGMENTS.false f.told })
 
-pub returns-in-Go : goal.returns-in-Go
-returns-in-Go c =
-    body-sum c.args.bytes.now c.args.at c.args.id c.if-bytes-at.false c.if-n-gt-MAX_SEGMENTS.false c.read_segments-parts.ensures c.in-Go.is c.read_checksum-sum.ensures c.put_head.ensures
+pub returns-in_err-sum : goal.returns-in_err-sum
+returns-in_err-sum c =
+    let f = c.in_ok-behind.ensures in
+    rw (passed_on _ _ c.from_residual-in_err-sum.ensures.1)
+    (record {
+      size = f.size;
+      told = body-summed c.args.bytes.now c.args.at c.args.id c.if-bytes-at.false c.if-n-gt-MAX_SEGMENTS.false f.told c.in_err-sum.ensures;
+    })
 
-pub returns-in-Stop : goal.returns-in-Stop
-returns-in-Stop c =
-    body-stop c.args.bytes.now _ c.read_segments-parts.ensures.size c.not_stored-in-Stop.ensures
-    (body-pieces c.args.bytes.now c.args.at c.args.id c.if-bytes-at.false c.if-n-gt-MAX_SEGMENTS.false c.read_segments-parts.ensures c.in-Stop.is)
+pub returns : goal.returns
+returns c =
+    let f = c.in_ok-behind.ensures in
+    body-sum c.args.bytes.now c.args.at c.args.id c.if-bytes-at.false c.if-n-gt-MAX_SEGMENTS.false f.told c.in_ok-sum.ensures f.size c.put_head.ensures

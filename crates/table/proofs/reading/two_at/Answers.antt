@@ -1,9 +1,16 @@
--- `two_at`: One number behind another. Assumes nothing.
-use Rattle.table.proofs.Steps.{two-stop, two-fine}
+-- One number behind another. Assumes nothing.
+use Rattle.answer.proofs.Passing.{passed_on}
+use Rattle.table.proofs.Steps.{two-stop, two-second, two-fine}
 use Rattle.table.proofs.reading.two_at.Goals as goal
 
-pub returns-in-Go : goal.returns-in-Go
-returns-in-Go c = let a = c.args in two-fine a.bytes.now a.at c.number_at-one.ensures c.in-Go.is c.number_at-two.ensures
+pub returns-in_err-one : goal.returns-in_err-one
+returns-in_err-one c =
+    rw (passed_on _ _ c.from_residual.ensures.1) (two-stop c.args.bytes.now c.args.at c.in_err-one.ensures)
 
-pub returns-in-Stop : goal.returns-in-Stop
-returns-in-Stop c = let a = c.args in two-stop a.bytes.now a.at c.number_at-one.ensures c.in-Stop.is
+pub returns-in_err-two : goal.returns-in_err-two
+returns-in_err-two c =
+    rw (passed_on _ _ c.from_residual-in_err-two.ensures.1) (two-second c.args.bytes.now c.args.at c.in_ok-one.ensures c.in_err-two.ensures)
+
+pub returns : goal.returns
+returns c =
+    two-fine c.args.bytes.now c.args.at c.in_ok-one.ensures c.in_ok-two.ensures

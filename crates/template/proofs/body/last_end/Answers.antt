@@ -7,14 +7,14 @@ use Rattle.template.proofs.Sizes.{last-end, last_none, segment_within}
 use Rattle.template.proofs.body.last_end.Goals as goal
 
 pub returns-then-n-eq0 : goal.returns-then-n-eq0
-returns-then-n-eq0 c = last_none c.args.t.now (ap (λ (h : Head). h.count) c.judged_head-n.ensures) c.if-n-eq0.true
+returns-then-n-eq0 c = last_none c.args.t.words.now (ap (λ (h : Head). h.count) c.head-n.ensures) c.if-n-eq0.true
 
-pub segment_at-s-requires : goal.segment_at-s-requires
-segment_at-s-requires c = record { template_words_in_bounds = c.requires.template_words_in_bounds; j_lt_max_segments = omega (arith, ap (λ (h : Head). h.count) c.judged_head-n.ensures, c.requires.usable_template.few) }
+pub segment-s-requires : goal.segment-s-requires
+segment-s-requires c = omega (arith, ap (λ (h : Head). h.count) c.head-n.ensures, c.args.t.usable.few)
 
 pub overflow_add-result : goal.overflow_add-result
 overflow_add-result c =
-    omega (arith, segment_within c.args.t.now c.requires.usable_template (c.judged_head-n.result.count - 1) (omega (arith, ap (λ (h : Head). h.count) c.judged_head-n.ensures)) c.segment_at-s.ensures)
+    omega (arith, segment_within c.args.t.words.now c.args.t.usable (c.head-n.result.count - 1) (omega (arith, ap (λ (h : Head). h.count) c.head-n.ensures)) c.segment-s.ensures)
 
 pub returns : goal.returns
-returns c = last-end c.args.t.now (ap (λ (h : Head). h.count) c.judged_head-n.ensures) (omega arith) c.segment_at-s.ensures
+returns c = last-end c.args.t.words.now (ap (λ (h : Head). h.count) c.head-n.ensures) (omega arith) c.segment-s.ensures

@@ -1,17 +1,13 @@
 -- The last segment's end decides first, and then the field's end. Assumes nothing.
-use mathlib.Core.Path.{sym}
-use native.Mathlib.Omega.{arith}
-use Rattle.template.proofs.Sizes.{field-within, reaches-short, reaches-sum, reaches-plain}
+use Rattle.std.proofs.Common.{sym, arith}
+use Rattle.template.proofs.Sizes.{field-within, reaches-sum, reaches-plain}
 use Rattle.template.proofs.body.reaches.Goals as goal
 
-pub returns-then-size-last_end : goal.returns-then-size-last_end
-returns-then-size-last_end c = sym (reaches-short c.args.t.now (omega arith))
-
 pub overflow_add-result : goal.overflow_add-result
-overflow_add-result c = omega (arith, field-within c.args.t.now c.requires.usable_template c.judged_head-head.ensures c.if-head.true)
+overflow_add-result c = omega (arith, field-within c.args.t.words.now c.args.t.usable c.head.ensures c.in-Some.is)
 
-pub returns-then-head : goal.returns-then-head
-returns-then-head c = sym (reaches-sum c.args.t.now c.judged_head-head.ensures (omega arith) c.if-head.true)
+pub returns-in-Some : goal.returns-in-Some
+returns-in-Some c = sym (reaches-sum c.args.t.words.now c.head.ensures (omega arith) c.in-Some.is)
 
-pub returns : goal.returns
-returns c = sym (reaches-plain c.args.t.now c.judged_head-head.ensures (omega arith) c.if-head.false)
+pub returns-in-None : goal.returns-in-None
+returns-in-None c = sym (reaches-plain c.args.t.words.now c.head.ensures (omega arith) c.in-None.is)

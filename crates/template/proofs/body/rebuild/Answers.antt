@@ -4,19 +4,16 @@ use Rattle.template.proofs.Completing.{weavable, completable, continues_plain, c
 use Rattle.template.proofs.body.rebuild.Goals as goal
 
 pub weave_into-n-requires : goal.weave_into-n-requires
-weave_into-n-requires c = record { template_words_in_bounds = c.requires.template_words_in_bounds; weavable = weavable _ _ _ c.requires.rebuildable _ (search rules) }
-
-pub judged_head-head-requires : goal.judged_head-head-requires
-judged_head-head-requires c = record { template_words_in_bounds = c.requires.template_words_in_bounds; usable_template = c.requires.rebuildable.usable }
+weave_into-n-requires c = weavable _ _ _ c.requires _ (search rules)
 
 pub complete-requires : goal.complete-requires
 complete-requires c =
-    completable _ _ _ c.requires.rebuildable c.weave_into-n.ensures c.judged_head-head.ensures (search rules) c.if-head.true
+    completable _ _ _ c.requires c.weave_into-n.ensures c.head.ensures (search rules) c.in-Some.is
 
-pub returns-then-head : goal.returns-then-head
-returns-then-head c =
-    continues_sum _ _ _ c.requires.rebuildable c.weave_into-n.ensures c.judged_head-head.ensures c.if-head.true c.complete.ensures
+pub returns-in-Some : goal.returns-in-Some
+returns-in-Some c =
+    continues_sum _ _ _ c.requires c.weave_into-n.ensures c.head.ensures c.in-Some.is c.complete.ensures
 
-pub returns-else-head : goal.returns-else-head
-returns-else-head c =
-    continues_plain _ _ _ c.requires.rebuildable c.weave_into-n.ensures c.judged_head-head.ensures c.if-head.false
+pub returns-in_default : goal.returns-in_default
+returns-in_default c =
+    continues_plain _ _ _ c.requires c.weave_into-n.ensures c.head.ensures c.in_default.is

@@ -7,50 +7,44 @@ use Rattle.table.specs.Words.{head_of}
 use Rattle.template.proofs.Sizes.{segment_within}
 use Rattle.template.proofs.Shortening.{shortening_none, next_up, next-inside, shortening_same, shortening_more, tail_room, shortening_done}
 use Rattle.template.proofs.body.shorten.Goals as goal
-use Rattle.template.proofs.body.shorten.Goals.{After-segment_at-s}
+use Rattle.template.proofs.body.shorten.Goals.{After-segment-s}
 
 -- the segment at j is one of the template's
-turn : (c : After-segment_at-s) → c.loop-j.j < (head_of c.args.t.now).count
-turn c = omega (arith, ap (λ (h : Head). h.count) c.judged_head-n.ensures, c.loop-j-test.true)
-
-pub judged_head-n-requires : goal.judged_head-n-requires
-judged_head-n-requires c = record { template_words_in_bounds = c.requires.template_words_in_bounds; usable_template = c.requires.shortenable.usable }
+turn : (c : After-segment-s) → c.loop-j.j < (head_of c.args.t.words.now).count
+turn c = omega (arith, ap (λ (h : Head). h.count) c.head-n.ensures, c.loop-j-test.true)
 
 pub loop-j-init : goal.loop-j-init
-loop-j-init c = shortening_none _ _ _ _ _ c.requires.shortenable
+loop-j-init c = shortening_none _ _ _ _ _ c.requires
 
-pub segment_at-s-requires : goal.segment_at-s-requires
-segment_at-s-requires c = record { template_words_in_bounds = c.requires.template_words_in_bounds; j_lt_max_segments = omega (arith, ap (λ (h : Head). h.count) c.judged_head-n.ensures, c.requires.shortenable.usable.few) }
+pub segment-s-requires : goal.segment-s-requires
+segment-s-requires c = omega (arith, ap (λ (h : Head). h.count) c.head-n.ensures, c.requires.usable.few)
 
 pub copy_range-next-requires : goal.copy_range-next-requires
 copy_range-next-requires c =
-    let r = c.requires.shortenable in
+    let r = c.requires in
     let i = c.loop-j.invariant in
-    let t = turn (goal.at.copy_range-next-requires c).After-segment_at-s in
-    let up = next_up _ _ _ _ _ r i t c.segment_at-s.ensures in
-    let inward = next-inside _ _ _ _ _ r i t c.segment_at-s.ensures in
+    let t = turn (goal.at.copy_range-next-requires c).After-segment-s in
+    let up = next_up _ _ _ _ _ r i t c.segment-s.ensures in
+    let inward = next-inside _ _ _ _ _ r i t c.segment-s.ensures in
     (up, omega (arith, inward), omega (arith, up, inward, i.behind, shortening_same _ _ _ _ _ r i, r.room))
 
 pub overflow_add-pos : goal.overflow_add-pos
-overflow_add-pos c = omega (arith, segment_within _ c.requires.shortenable.usable _ (turn (goal.at.overflow_add-pos c).After-segment_at-s) c.segment_at-s.ensures)
-
-pub overflow_add-j : goal.overflow_add-j
-overflow_add-j c = omega (arith, turn (goal.at.overflow_add-j c).After-segment_at-s, c.requires.shortenable.usable.few)
+overflow_add-pos c = omega (arith, segment_within _ c.requires.usable _ (turn (goal.at.overflow_add-pos c).After-segment-s) c.segment-s.ensures)
 
 pub loop-j-preserved : goal.loop-j-preserved
 loop-j-preserved c =
-    shortening_more _ _ _ _ _ c.requires.shortenable c.loop-j.invariant (turn (goal.at.loop-j-preserved c).After-segment_at-s) c.segment_at-s.ensures c.copy_range-next.ensures
+    shortening_more _ _ _ _ _ c.requires c.loop-j.invariant (turn (goal.at.loop-j-preserved c).After-segment-s) c.segment-s.ensures c.copy_range-next.ensures
 
 pub copy_range-end-requires : goal.copy_range-end-requires
 copy_range-end-requires c =
-    let r = c.requires.shortenable in
+    let r = c.requires in
     let i = c.loop-j.invariant in
     omega (arith, i.behind, i.inside, shortening_same _ _ _ _ _ r i, r.room)
 
-pub put_many-requires : goal.put_many-requires
-put_many-requires c =
-    tail_room _ _ _ _ _ c.requires.shortenable c.loop-j.invariant (omega (arith, ap (λ (h : Head). h.count) c.judged_head-n.ensures, c.loop-j-test.false)) c.copy_range-end.ensures
+pub put_bytes-requires : goal.put_bytes-requires
+put_bytes-requires c =
+    tail_room _ _ _ _ _ c.requires c.loop-j.invariant (omega (arith, ap (λ (h : Head). h.count) c.head-n.ensures, c.loop-j-test.false)) c.copy_range-end.ensures
 
 pub returns : goal.returns
 returns c =
-    shortening_done _ _ _ _ _ c.requires.shortenable c.loop-j.invariant (omega (arith, ap (λ (h : Head). h.count) c.judged_head-n.ensures, c.loop-j-test.false)) c.copy_range-end.ensures c.put_many.ensures
+    shortening_done _ _ _ _ _ c.requires c.loop-j.invariant (omega (arith, ap (λ (h : Head). h.count) c.head-n.ensures, c.loop-j-test.false)) c.copy_range-end.ensures c.put_bytes.ensures

@@ -1,10 +1,6 @@
 -- The invariant is `Weaving`. Assumes nothing.
-use Prim.Native.Nat.{◌-◌}
 use Rattle.template.proofs.Weaving.{Weaving}
 use Rattle.template.proofs.body.weave_into.Given as goal
 
 abbrev pub invariant-loop-j : goal.invariant-loop-j
-invariant-loop-j l = Weaving l.t l.body l.initial.image l.image l.pos l.at l.j
-
-abbrev pub decreases-loop-j : goal.decreases-loop-j
-decreases-loop-j l = l.n - l.j
+invariant-loop-j l = Weaving l.t.words.now l.body l.initial.image l.image l.pos l.at l.j

@@ -5,11 +5,11 @@ use Rattle.template.proofs.checksum.put_seed.Goals as goal
 
 pub put_word-requires : goal.put_word-requires
 put_word-requires c =
-    let s = c.requires.fillable in
-    (omega (arith, fillable_inside _ _ _ c.judged_head-head.ensures s c.if-head.true), omega (arith, s.small))
+    let s = c.requires in
+    (omega (arith, fillable_inside _ _ _ c.head.ensures s c.in-Some.is), omega (arith, s.small))
 
-pub returns-then-head : goal.returns-then-head
-returns-then-head c = filled-sum _ _ _ c.judged_head-head.ensures c.if-head.true c.put_word.ensures
+pub returns-in-Some : goal.returns-in-Some
+returns-in-Some c = filled-sum _ _ _ c.head.ensures c.in-Some.is c.put_word.ensures
 
-pub returns-else-head : goal.returns-else-head
-returns-else-head c = filled-plain _ _ _ c.judged_head-head.ensures c.if-head.false
+pub returns-in_default : goal.returns-in_default
+returns-in_default c = filled-plain _ _ _ c.head.ensures c.in_default.is

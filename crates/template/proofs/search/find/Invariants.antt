@@ -7,7 +7,6 @@ use mathlib.Core.Path.{◌≡◌}
 use mathlib.Core.Bool.{◌&&◌}
 use Rattle.inet.specs.Packet.{lowered}
 use Rattle.table.specs.Words.{templates_of}
-use Rattle.template.specs.declared.Fit.TheVariants.{None}
 use Rattle.template.specs.Pieces.{fits_pieces}
 use Rattle.template.specs.Fits.{first_fit}
 use Rattle.template.specs.Usable.{pieces_of, holds_at}
@@ -17,28 +16,19 @@ use Rattle.template.proofs.search.find.Given as goal
 
 abbrev pub invariant-fours : goal.invariant-fours
 invariant-fours l =
-    (l.k ≤ l.stop) × (fits_pieces (pieces_from l.t l.j (l.n - l.j)) (lowered l.packet) ≡ (holds_at l.t l.front l.k l.stop && fits_pieces (pieces_from l.t (l.j + 1) (l.n - (l.j + 1))) (lowered l.packet)))
+    (l.k ≤ l.stop) × (fits_pieces (pieces_from l.t.words.now l.j (l.n - l.j)) (lowered l.packet) ≡ (holds_at l.t.words.now l.front l.k l.stop && fits_pieces (pieces_from l.t.words.now (l.j + 1) (l.n - (l.j + 1))) (lowered l.packet)))
 
 abbrev pub decreases-fours : goal.decreases-fours
 decreases-fours l = l.stop - l.k
 
 abbrev pub invariant-bytes : goal.invariant-bytes
 invariant-bytes l =
-    (l.k ≤ l.stop) × (fits_pieces (pieces_from l.t l.j (l.n - l.j)) (lowered l.packet) ≡ (holds_at l.t l.front l.k l.stop && fits_pieces (pieces_from l.t (l.j + 1) (l.n - (l.j + 1))) (lowered l.packet)))
-
-abbrev pub decreases-bytes : goal.decreases-bytes
-decreases-bytes l = l.stop - l.k
+    fits_pieces (pieces_from l.t.words.now l.j (l.n - l.j)) (lowered l.packet) ≡ (holds_at l.t.words.now l.front l.b l.stop && fits_pieces (pieces_from l.t.words.now (l.j + 1) (l.n - (l.j + 1))) (lowered l.packet))
 
 abbrev pub invariant-segments : goal.invariant-segments
 invariant-segments l =
-    (l.j ≤ l.n) × (fits_pieces (pieces_of l.t) (lowered l.packet) ≡ fits_pieces (pieces_from l.t l.j (l.n - l.j)) (lowered l.packet))
-
-abbrev pub decreases-segments : goal.decreases-segments
-decreases-segments l = l.n - l.j
+    fits_pieces (pieces_of l.t.words.now) (lowered l.packet) ≡ fits_pieces (pieces_from l.t.words.now l.j (l.n - l.j)) (lowered l.packet)
 
 abbrev pub invariant-templates : goal.invariant-templates
 invariant-templates l =
-    (l.answer ≡ None) × (l.next ≤ l.count) × (first_fit (templates_of l.table) (lowered l.packet) ≡ first_fit (templates_from l.table l.next (l.count - l.next)) (lowered l.packet))
-
-abbrev pub decreases-templates : goal.decreases-templates
-decreases-templates l = l.count - l.next
+    first_fit (templates_of l.table) (lowered l.packet) ≡ first_fit (templates_from l.table l.i (l.count - l.i)) (lowered l.packet)

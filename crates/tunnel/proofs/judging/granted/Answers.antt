@@ -2,6 +2,7 @@
 use Prim.Native.Nat.{◌≤◌}
 use mathlib.Core.Path.{◌≡◌}
 use native.Mathlib.Omega.{arith}
+use borrow.Author.Rules.{rules}
 use Rattle.policy.specs.Granted.{side_words}
 use Rattle.state.specs.State.{received_at, given_at}
 use Rattle.tunnel.proofs.JudgingLaws.{first_at, second_at, picked, first-within, second-within, words-enough, first-sound, second-sound, granted-by}
@@ -60,13 +61,13 @@ pub slice_bounds-reply-end : goal.slice_bounds-reply-end
 slice_bounds-reply-end c = omega (arith, second-low (goal.at.slice_bounds-reply-end c).Joined-sending-2)
 
 pub flow_of-requires : goal.flow_of-requires
-flow_of-requires c = c.requires.state_value.1
+flow_of-requires c = c.requires.1
 
 pub passes-requires : goal.passes-requires
 passes-requires c =
     let w = c.args.state.now in
     let b = c.args.sending in
-    record { side_words_in_bounds = (words-enough w (first-low (goal.at.passes-requires c).Joined-sending) c.requires.state_words_in_bounds, words-enough w (second-low (goal.at.passes-requires c).Joined-sending-2) c.requires.state_words_in_bounds); sides_sound = (first-sound w b c.requires.state_value.0 (first-at (goal.at.passes-requires c).Joined-sending), second-sound w b c.requires.state_value.0 (second_at_lem (goal.at.passes-requires c).Joined-sending-2)) }
+    record { side_words_in_bounds = (words-enough w (first-low (goal.at.passes-requires c).Joined-sending) (search rules), words-enough w (second-low (goal.at.passes-requires c).Joined-sending-2) (search rules)); sides_sound = (first-sound w b c.requires.0 (first-at (goal.at.passes-requires c).Joined-sending), second-sound w b c.requires.0 (second_at_lem (goal.at.passes-requires c).Joined-sending-2)) }
 
 pub returns : goal.returns
 returns c =

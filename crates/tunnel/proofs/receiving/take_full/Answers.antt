@@ -5,7 +5,6 @@ use native.Mathlib.Omega.{arith}
 use Rattle.template.specs.Datagrams.{max_packet}
 use Rattle.tunnel.proofs.ReceivingSteps as Steps
 use Rattle.tunnel.proofs.ReceivingOpening as Opening
-use borrow.Author.Rules.{rules}
 use Rattle.tunnel.proofs.receiving.take_full.Goals as goal
 use Rattle.tunnel.proofs.receiving.take_full.Goals.{Else-body-gt-MAX_PACKET}
 
@@ -17,7 +16,7 @@ returns-then-body-gt-MAX_PACKET c = Steps.takes_refused _ (Opening.over-limit c.
 
 pub take_in-requires : goal.take_in-requires
 take_in-requires c =
-    record { state_words_in_bounds = search rules; takable = record { sound = c.requires.receivable.sound; room = omega (arith, within (goal.at.take_in-requires c).Else-body-gt-MAX_PACKET, c.requires.receivable.room) } }
+    record { sound = c.requires.sound; room = omega (arith, within (goal.at.take_in-requires c).Else-body-gt-MAX_PACKET, c.requires.room) }
 
 pub returns : goal.returns
 returns c = Steps.takes_as _ (Opening.within-limit c.args.body.now (within (goal.at.returns c).Else-body-gt-MAX_PACKET)) c.take_in.ensures

@@ -7,15 +7,15 @@ use Rattle.tunnel.proofs.receiving.take_rebuilt.Goals as goal
 
 pub slice_bounds-front-end : goal.slice_bounds-front-end
 slice_bounds-front-end c =
-    Opening.front-within c.args.t.now c.args.near.now c.args.far.now c.rebuild-n.ensures
+    Opening.front-within c.args.t.words.now c.args.near.now c.args.far.now c.rebuild-n.ensures
 
 pub slice_bounds-take_joined-end : goal.slice_bounds-take_joined-end
 slice_bounds-take_joined-end c =
-    sym (Opening.front_length c.args.t.now c.args.near.now c.args.far.now c.rebuild-n.ensures)
+    sym (Opening.front_length c.args.t.words.now c.args.near.now c.args.far.now c.rebuild-n.ensures)
 
 pub take_joined-requires : goal.take_joined-requires
 take_joined-requires c =
-    record { state_words_in_bounds = c.requires.state_words_in_bounds.0; joinable = Opening.joinable c.args.t.now c.args.near.now c.args.far.now c.rebuild-n.ensures c.requires.receivable.1 c.requires.receivable.0 }
+    Opening.joinable c.args.t.words.now c.args.near.now c.args.far.now c.rebuild-n.ensures c.requires.1 c.requires.0
 
 pub returns : goal.returns
 returns c =

@@ -11,16 +11,13 @@ rest : (c : After-put_seed) → take (length c.args.packet.now - length c.put_se
 rest c = behind c.args.packet.now c.args.front.now c.put_seed.new.front c.put_seed.auto.front
 
 inside : (c : After-put_seed) → length c.put_seed.new.front ≤ length c.args.packet.now
-inside c = omega (arith, front-inside _ _ _ _ _ c.requires.shortable, c.put_seed.auto.front)
-
-pub judged_head-requires : goal.judged_head-requires
-judged_head-requires c = record { template_words_in_bounds = c.requires.template_words_in_bounds; usable_template = c.requires.shortable.usable }
+inside c = omega (arith, front-inside _ _ _ _ _ c.requires, c.put_seed.auto.front)
 
 pub put_number-at-requires : goal.put_number-at-requires
-put_number-at-requires c = record { room = id-room _ _ _ _ _ c.requires.shortable _; value_lt_limit = id_below _ c.judged_head.ensures c.requires.shortable.usable }
+put_number-at-requires c = record { room = id-room _ _ _ _ _ c.requires _; value_lt_limit = id_below _ c.head.ensures c.requires.usable }
 
 pub put_seed-requires : goal.put_seed-requires
-put_seed-requires c = record { template_words_in_bounds = c.requires.template_words_in_bounds; fillable = short_fillable _ _ _ _ _ c.requires.shortable }
+put_seed-requires c = short_fillable _ _ _ _ _ c.requires
 
 pub slice_bounds-shorten-count : goal.slice_bounds-shorten-count
 slice_bounds-shorten-count c = inside (goal.at.slice_bounds-shorten-count c).After-put_seed
@@ -30,8 +27,8 @@ slice_bounds-shorten-start c = inside (goal.at.slice_bounds-shorten-start c).Aft
 
 pub shorten-requires : goal.shorten-requires
 shorten-requires c =
-    record { template_words_in_bounds = c.requires.template_words_in_bounds; shortenable = short_shortenable _ _ _ _ _ c.requires.shortable c.judged_head.ensures c.put_number-at.ensures c.put_seed.ensures (rest (goal.at.shorten-requires c).After-put_seed) }
+    short_shortenable _ _ _ _ _ c.requires c.head.ensures c.put_number-at.ensures c.put_seed.ensures (rest (goal.at.shorten-requires c).After-put_seed)
 
 pub returns : goal.returns
 returns c =
-    put-short _ _ _ _ _ c.requires.shortable c.judged_head.ensures c.put_number-at.ensures c.put_seed.ensures (rest (goal.at.returns c).After-put_seed) c.shorten.ensures
+    put-short _ _ _ _ _ c.requires c.head.ensures c.put_number-at.ensures c.put_seed.ensures (rest (goal.at.returns c).After-put_seed) c.shorten.ensures

@@ -8,6 +8,7 @@ use native.Mathlib.Omega.{arith}
 use borrow.Author.Tests.{lt-ltb, le-ltb}
 use lib.ListN.{length, drop}
 use Rattle.answer.specs.Verdict.{first_of}
+use Rattle.answer.proofs.Passing.{passed_on}
 use Rattle.answer.proofs.Tables.{stops, passes}
 use Rattle.lists.proofs.Calls.{called_true, called_false}
 use Rattle.inet.proofs.CarriedLaws.{alone, alone_parted}
@@ -16,9 +17,8 @@ use Rattle.template.specs.Datagrams.{max_packet}
 use Rattle.tunnel.specs.Tunnel.{send_room, send_tests, send_verdict}
 use Rattle.tunnel.specs.Judging.{judge_tests}
 use Rattle.tunnel.proofs.JudgingLaws.{judged-sent}
-use borrow.Author.Rules.{rules}
 use Rattle.tunnel.proofs.sending.send_verdict.Goals as goal
-use Rattle.tunnel.proofs.sending.send_verdict.Goals.{After-judge-v, Else-not-state_sound, Else-packet-gt-MAX_PACKET, Else-room-lt-SEND_ROOM}
+use Rattle.tunnel.proofs.sending.send_verdict.Goals.{After-judge, Else-not-state_sound, Else-packet-gt-MAX_PACKET, Else-room-lt-SEND_ROOM}
 
 past1 : (c : Else-room-lt-SEND_ROOM) → (first_of ((send_tests ((state_in c.args.state.now)) c.args.packet.now c.args.room)) ≡ first_of (drop 1 ((send_tests ((state_in c.args.state.now)) c.args.packet.now c.args.room))))
 unfolding send_tests
@@ -47,22 +47,25 @@ pub returns-then-packet-gt-MAX_PACKET : goal.returns-then-packet-gt-MAX_PACKET
 unfolding send_verdict send_tests
 returns-then-packet-gt-MAX_PACKET c = sym (past2 (goal.at.returns-then-packet-gt-MAX_PACKET c).Else-not-state_sound ∙ stops _ _ _ (lt-ltb max_packet (length c.args.packet.now) (omega arith)))
 
-pub judge-v-requires : goal.judge-v-requires
-judge-v-requires c =
-    record { state_words_in_bounds = search rules; state_value = (sound (goal.at.judge-v-requires c).Else-not-state_sound, alone_parted c.args.packet.now (omega arith)) }
+pub judge-requires : goal.judge-requires
+judge-requires c =
+    (sound (goal.at.judge-requires c).Else-not-state_sound, alone_parted c.args.packet.now (omega arith))
 
 -- the judge's verdict is that of the whole table
-judged : (c : After-judge-v) → first_of (send_tests (state_in c.args.state.now) c.args.packet.now c.args.room) ≡ first_of (drop 3 (send_tests (state_in c.args.state.now) c.args.packet.now c.args.room))
-    → c.judge-v.result ≡ send_verdict ((state_in c.args.state.now)) c.args.packet.now c.args.room
+judged : (c : After-judge) → first_of (send_tests (state_in c.args.state.now) c.args.packet.now c.args.room) ≡ first_of (drop 3 (send_tests (state_in c.args.state.now) c.args.packet.now c.args.room))
+    → c.judge.result ≡ send_verdict ((state_in c.args.state.now)) c.args.packet.now c.args.room
 unfolding send_verdict
 judged c p =
-    c.judge-v.ensures
+    c.judge.ensures
     ∙ ap (λ (q : List ℕ). first_of (judge_tests true ((state_in c.args.state.now)) q)) (alone c.args.packet.now)
     ∙ judged-sent ((state_in c.args.state.now)) c.args.packet.now c.args.room
     ∙ sym p
 
-pub returns-in-Stop : goal.returns-in-Stop
-returns-in-Stop c = sym c.in-Stop.is ∙ judged (goal.at.returns-in-Stop c).After-judge-v (past3 (goal.at.returns-in-Stop c).Else-packet-gt-MAX_PACKET)
+pub returns-in_err-judge : goal.returns-in_err-judge
+returns-in_err-judge c =
+    passed_on _ _ c.from_residual.ensures.1
+    ∙ sym c.in_err-judge.was
+    ∙ judged (goal.at.returns-in_err-judge c).After-judge (past3 (goal.at.returns-in_err-judge c).Else-packet-gt-MAX_PACKET)
 
-pub returns-in-Go : goal.returns-in-Go
-returns-in-Go c = sym c.in-Go.is ∙ judged (goal.at.returns-in-Go c).After-judge-v (past3 (goal.at.returns-in-Go c).Else-packet-gt-MAX_PACKET)
+pub returns : goal.returns
+returns c = sym c.in_ok-judge.was ∙ judged (goal.at.returns c).After-judge (past3 (goal.at.returns c).Else-packet-gt-MAX_PACKET)

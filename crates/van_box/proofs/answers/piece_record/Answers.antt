@@ -6,12 +6,12 @@ use Rattle.van_box.proofs.answers.piece_record.Goals as goal
 
 pub put_answer-answered-requires : goal.put_answer-answered-requires
 put_answer-answered-requires c =
-    let w = c.next_capsule-piece in
+    let w = c.next_capsule-read in
     answer-room c.args.out.now _ (omega (arith, c.requires))
     (handed-writes c.args.output c.args.out.now c.requires w.ensures c.call_answer-answer.ensures) w.auto.out
 
 pub returns : goal.returns
 returns c =
-    let w = c.next_capsule-piece in
-    handed-on c.args.output c.args.out.now c.requires w.ensures c.call_answer-answer.ensures c.is_handed.ensures w.auto.out
+    let w = c.next_capsule-read in
+    handed-on c.args.output c.args.out.now c.requires w.ensures c.call_answer-answer.ensures c.taken_by.ensures c.is_handed.ensures w.auto.out
     c.put_answer-answered.ensures
