@@ -78,12 +78,11 @@ fn walk(rt: &impl Print, bytes: &[u8]) -> io::Result<()> {
     let mut at = 0;
     // a step is as long as the capsule that was read, so no range has these places
     while at < bytes.len() {
-        let read = walker::read_at(bytes, at);
-        println!(rt; "{}", Reading { bytes, read })?;
-        let next = match read {
-            Ok(capsule) => capsule.next,
-            Err(_) => break,
+        let (read, next) = match walker::read_at(bytes, at) {
+            Ok(capsule) => (Ok(capsule), capsule.next),
+            Err(refused) => (Err(refused.why), refused.at),
         };
+        println!(rt; "{}", Reading { bytes, read })?;
         if next <= at {
             break;
         }
