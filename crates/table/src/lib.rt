@@ -11,8 +11,8 @@ mod rules; // rules.rt: the rules of a Context ID, a segment and a checksum
 mod template; // template.rt: a template that was judged
 
 ghost use Rattle.std.specs.Prelude.{◌≡◌, ◌<◌, ◌≤◌, length};
-ghost use Rattle.table.specs.Limits.{max_segments};
-ghost use Rattle.table.specs.Words.{template_words, head_of, segment_at, field_under};
+ghost use Rattle.table.specs.Limits.{max_segments, static_limit};
+ghost use Rattle.table.specs.Words.{template_words, head_of, segment_at, byte_at, field_under};
 ghost use Rattle.table.specs.Sound.{UsableTemplate};
 
 pub use judge::{table_fault, table_sound};
@@ -119,4 +119,13 @@ pub fn segment_at(t: &[u64], j: usize) -> Segment
     let offset = t[at] as usize;
     let length = t[at + 1] as usize;
     Segment { offset, length }
+}
+
+// Its static byte of position p, judged or not.
+pub fn byte_at(t: &[u64], p: usize) -> u8
+    requires template_words_in_bounds { template_words ≤ length t.now }
+    requires p_lt_static_limit { p < static_limit }
+    ensures { result ≡ byte_at t.now p }
+{
+    (t[IMAGE_AT + p] % 256) as u8
 }

@@ -6,7 +6,7 @@ ghost use Rattle.table.specs.Words.{template_words, table_words, head_of, segmen
 ghost use Rattle.table.specs.Sound.{UsableTemplate, Usable};
 ghost use Rattle.table.specs.Props.{UsableTemplate-prop};
 
-use crate::{Head, IMAGE_AT, Segment, TEMPLATE_WORDS};
+use crate::{Head, Segment, TEMPLATE_WORDS};
 
 // The words of a usable template, where they lie in a table.
 #[derive(Clone, Copy)]
@@ -36,7 +36,7 @@ impl<'a> Template<'a> {
         requires { p < static_limit }
         ensures { result ≡ byte_at self.entry.words.now p }
     {
-        (self.words[IMAGE_AT + p] % 256) as u8
+        crate::byte_at(self.words, p)
     }
 
     // How many static bytes it holds.
