@@ -116,6 +116,11 @@ module _ (w v l : List ℕ) (start : ℕ) where
       rw (Value.ranges-short v (s (omega arith))) (left-routes w l _ _ (ranges_in v), asked-routes w l _ _ (ranges_in v))
   value-left Other s = (refl, refl)
 
+-- no list is found
+abbrev pub Plain : Result CapsuleRead Refusal → Type 0
+Plain (Ok f) = (f.kind ≡ Datagram) ⊎ (f.kind ≡ Other)
+Plain (Err why) = Unit
+
 -- ---- the capsule
 module _ (w s : List ℕ) (at : ℕ) (l : List ℕ) where
   -- a frame that is refused
@@ -138,9 +143,14 @@ module _ (w s : List ℕ) (at : ℕ) (l : List ℕ) where
         requested = t.requested ∙ sym (ap (requested l) q ∙ b.1);
       }
 
-  -- a frame of no list
-  pub read_plain : {f : CapsuleRead} → Ok f ≡ frame_in s at → (f.kind ≡ Datagram) ⊎ (f.kind ≡ Other) → TakesCapsule w s at l (Ok f) w l
-  read_plain {f} e n = read_taken (Value.found s at f e) (takes_nothing w f.kind (Value.value_in s f) l n) refl
+  -- a frame that was found and has no list
+  read_no_list : {f : CapsuleRead} → Ok f ≡ frame_in s at → (f.kind ≡ Datagram) ⊎ (f.kind ≡ Other) → TakesCapsule w s at l (Ok f) w l
+  read_no_list {f} e n = read_taken (Value.found s at f e) (takes_nothing w f.kind (Value.value_in s f) l n) refl
+
+  -- a frame that is refused or has no list
+  pub read_plain : (r : Result CapsuleRead Refusal) → r ≡ frame_in s at → Plain r → TakesCapsule w s at l r w l
+  read_plain (Ok f) e n = read_no_list e n
+  read_plain (Err why) e n = read-refused (sym e)
 
   -- the state is judged first
   pub read-broken : sound_state (state_in w) ≡ false → ReadsCapsule w s at l (Err BrokenState) w l

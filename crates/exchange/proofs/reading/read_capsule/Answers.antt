@@ -11,12 +11,12 @@ returns-then-not-state_sound c = Read.read-broken _ _ _ _ (called_false c.state_
 pub returns-in_err-found : goal.returns-in_err-found
 returns-in_err-found c =
     rw (passed_on _ _ c.from_residual.ensures.1)
-    (Read.read_sound-state _ _ _ _ (called_true c.state_sound.ensures c.if-not-state_sound.false) (Read.read-refused _ _ _ _ (sym c.frame.ensures ∙ c.in_err-found.was)))
+    (Read.read_sound-state _ _ _ _ (called_true c.state_sound.ensures c.if-not-state_sound.false) (Read.read_plain _ _ _ _ _ (sym c.in_err-found.was ∙ c.frame.ensures) tt))
 
 pub returns-in-Datagram : goal.returns-in-Datagram
 returns-in-Datagram c =
     Read.read_sound-state _ _ _ _ (called_true c.state_sound.ensures c.if-not-state_sound.false)
-    (Read.read_plain _ _ _ _ (sym c.in_ok-found.was ∙ c.frame.ensures) c.in-Datagram.is)
+    (Read.read_plain _ _ _ _ _ (sym c.in_ok-found.was ∙ c.frame.ensures) c.in-Datagram.is)
 
 pub returns-in-AddressAssign : goal.returns-in-AddressAssign
 returns-in-AddressAssign c = Read.read_sound-state _ _ _ _ (called_true c.state_sound.ensures c.if-not-state_sound.false) c.take_capsule.ensures
