@@ -109,9 +109,16 @@ fn ids_refused(value: &[u8], request: bool, count: usize) -> bool
     requires ids_counted { length (ids_in value.now) ≡ count }
     ensures { result ≡ (request && ids_refused (ids_in value.now)) }
 {
-    if !request {
-        return false;
-    }
+    request && any_refused(value, count)
+}
+
+// The same of a request. On its own, so that a list that is no request has no room for IDs on its stack.
+#[inline(never)]
+fn any_refused(value: &[u8], count: usize) -> bool
+    requires value_len_bound { length value.now ≤ max_value }
+    requires ids_counted { length (ids_in value.now) ≡ count }
+    ensures { result ≡ ids_refused (ids_in value.now) }
+{
     // the usual case: a peer that counts up
     if ids_ascend(value, count) {
         return false;

@@ -324,6 +324,7 @@ fn hand_value(kept: &[u8], bytes: &[u8], start: usize, out: &mut [u8]) -> usize
 
 // A list that was cut is read from a copy, so that a refusal leaves the kept bytes as they were. It stands apart, so that a DATAGRAM, or a list given
 // whole, does not touch the stack of the copy.
+#[inline(never)]
 fn take_cut(
     state: &mut [u64; STATE_WORDS],
     kept: &[u8],
