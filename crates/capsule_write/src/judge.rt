@@ -46,8 +46,20 @@ fn count_verdict(asked: bool, limit: usize, count: u64) -> Result<(), Refusal>
     Ok(())
 }
 
-// Of the first n elements.
+// Of the first n elements. Two calls, which are compiled apart: in a list that is no request no element is asked what a request asks more.
 fn elements_fault<T: Element>(w: &[u64], n: usize, request: bool) -> Result<(), Refusal>
+    requires words_in_bounds { T.words ≤ length w.now }
+    requires n_le_limit { n ≤ T.LIMIT }
+    ensures { result ≡ judged (T.format request) [] (from (T.at w.now) 0 n) }
+{
+    if request {
+        first_fault::<T>(w, n, true)
+    } else {
+        first_fault::<T>(w, n, false)
+    }
+}
+
+fn first_fault<T: Element>(w: &[u64], n: usize, request: bool) -> Result<(), Refusal>
     requires words_in_bounds { T.words ≤ length w.now }
     requires n_le_limit { n ≤ T.LIMIT }
     ensures { result ≡ judged (T.format request) [] (from (T.at w.now) 0 n) }

@@ -1,7 +1,7 @@
 -- The invariant: what the elements from i on say after those before them is the verdict (`Judging`).
 use Rattle.answer.proofs.Passing.{passed_on}
 use Rattle.capsule_write.proofs.Judging as Judging
-use Rattle.capsule_write.proofs.judge.elements_fault.Goals as goal
+use Rattle.capsule_write.proofs.judge.first_fault.Goals as goal
 
 pub loop-i-init : goal.loop-i-init
 loop-i-init g c = Judging.judge-start _ _ _
