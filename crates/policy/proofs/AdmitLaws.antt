@@ -35,6 +35,12 @@ module _ (a : Address) (p : ℕ) (icmp : Bool) (r : RouteRange) where
   unfolding admits
   admits-not_held e = rw e
 
+  -- a range that holds the address and names no protocol allows every one
+  pub admits_every : r.version ≡ a.version → leb (start_of r) (address_value a) ≡ true → leb (address_value a) (end_of r) ≡ true → r.protocol ≡ 0
+      → true ≡ admits a p icmp r
+  unfolding admits
+  admits_every v s t z = rw (eq-eqb r.version a.version v, s, t, eq-eqb r.protocol 0 z)
+
   pub admits_held : holds a r ≡ true → {t : Bool} → t ≡ allows p icmp r → t ≡ admits a p icmp r
   unfolding admits
   admits_held e q = rw e q
