@@ -33,8 +33,8 @@ fn any_admits6(w: &[u64], a: Address, protocol: u8, icmp: bool) -> bool
         let b = i * WORDS_PER_RANGE;
         let end_hi = w[b + 4];
         if hi <= end_hi && (hi < end_hi || lo <= w[b + 5]) {
-            let r = lists::range_at(w, i);
-            if admits(r, a, protocol, icmp) {
+            let range = lists::range_at(w, i);
+            if admits(range, a, protocol, icmp) {
                 return true;
             }
         }

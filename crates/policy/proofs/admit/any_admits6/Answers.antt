@@ -28,7 +28,7 @@ loop-i-preserved c =
     let f : get_or a.w.now (i * words_per_range + 5) 0 < 2 ^ 64 = omega (arith, c.type_inv.w (i * words_per_range + 5)) in (
       v.0,
       elim c.if-hi-end_hi.branch [
-        | then-hi-end_hi+then-lo-w+else-admits w ↦ Scans.any_miss v.1 h w.range_at-r.ensures (sym w.admits.ensures ∙ w.if-admits.false)
+        | then-hi-end_hi+then-lo-w+else-admits w ↦ Scans.any_miss v.1 h w.range_at-range.ensures (sym w.admits.ensures ∙ w.if-admits.false)
         | else-hi-end_hi w ↦ elim w.else-hi-end_hi.branch [
           | else-hi-end_hi-via-then-hi-end_hi+else-lo-w u ↦ elim u.if-hi-end_hi-2.branch [
             | then-hi-end_hi-2 t ↦ absurd (true≢false (sym (lt-ltb _ _ t.if-hi-end_hi-2.true) ∙ sym t.value-is ∙ u.if-lo-w.false))
