@@ -37,7 +37,7 @@ pub fn front(out: &[u8], n: usize) -> Hex
     Hex(b"")
 }
 
-// A line for each input: its name, and what the call wrote of it to the output, or the refusal.
+// A line for each input: its name, and what the call wrote of it to the output, or the refusal. The first write that fails ends it, and its error is handed on.
 pub fn lines<F: Fn(&[u8], &mut [u8]) -> Result<usize, Refusal>>(
     rt: &impl Print,
     inputs: &[(&str, &[u8])],
