@@ -49,20 +49,22 @@ unfolding read_capsule frame_of read_number
 nothing-there = refl
 
 module _ (s : List ℕ) (at : ℕ) (h : length s ≤ at) where
-  ended : read_at s at ≡ Err Incomplete
+  -- there is no capsule
+  pub read-end : read_at s at ≡ Err Incomplete
   unfolding read_at
-  ended = ap (λ (t : List ℕ). result_at at (read_capsule t)) (drop_of_length-le s h) ∙ ap (result_at at) nothing-there
+  read-end = ap (λ (t : List ℕ). result_at at (read_capsule t)) (drop_of_length-le s h) ∙ ap (result_at at) nothing-there
 
-  pub read-end : reading_at s at ≡ Err (refused_at at Incomplete)
-  read-end = ap (placed at) ended
+  -- and a walker tells the place
+  pub reading-end : reading_at s at ≡ Err (refused_at at Incomplete)
+  reading-end = ap (placed at) read-end
 
   -- the number is 1
   pub end-number : answer_number (read_at s at) ≡ 1
-  end-number = ap (λ (r : Result CapsuleRead Refusal). answer_number r) ended
+  end-number = ap (λ (r : Result CapsuleRead Refusal). answer_number r) read-end
 
   -- and stays so
   pub walk_end : (n : ℕ) → walk (suc n) s at ≡ Err (refused_at at Incomplete) ∷ walk n s at
-  walk_end n = walk_refused n s at Incomplete ended ∙ ap (λ (r : Result CapsuleRead RefusedAt). r ∷ walk n s at) read-end
+  walk_end n = walk_refused n s at Incomplete read-end ∙ ap (λ (r : Result CapsuleRead RefusedAt). r ∷ walk n s at) reading-end
 
 -- ---- capsules written one after the other
 
@@ -96,5 +98,5 @@ pub walk-written : (cs : List Capsule) → AllWritable cs
 unfolding walk
 walk-written cs ws =
     walk_more cs ws 1 (capsules_bytes cs) 0 [] (sym (append-nil (capsules_bytes cs)))
-    ∙ ap (λ (r : Result CapsuleRead RefusedAt). found_all 0 cs ++ (r ∷ [])) (read-end (capsules_bytes cs) (0 + length (capsules_bytes cs)) (omega arith))
+    ∙ ap (λ (r : Result CapsuleRead RefusedAt). found_all 0 cs ++ (r ∷ [])) (reading-end (capsules_bytes cs) (0 + length (capsules_bytes cs)) (omega arith))
     ∙ ap (λ (i : ℕ). found_all 0 cs ++ (Err (refused_at i Incomplete) ∷ [])) (zero-add (length (capsules_bytes cs)))
